@@ -1,0 +1,23 @@
+-- The text of a reply.
+use Rattle.std.specs.Prelude.{ℕ, List, [], ◌∷◌, ◌++◌, codes}
+use Rattle.std.specs.Fmt.{decimal, signed_decimal}
+use Rattle.std.specs.List.{flat_map}
+use Rattle.update_core.specs.declared.rows.Row.{Row}
+use Rattle.feed_text.specs.declared.replies.RunReply.{RunReply}
+use Rattle.feed_text.specs.declared.replies.RunReply.TheVariants.{Accepted, Empty, Range, Mismatch, Heavy, Rows, Early, Late}
+use Rattle.feed_text.specs.Grammar.{frontier_text}
+
+-- `DIFF DATUM`
+abbrev pub row_text : Row → List ℕ
+row_text r = signed_decimal r.diff ++ 32 ∷ (r.datum ++ 10 ∷ [])
+
+-- the lines of a reply, each with its line feed
+abbrev pub reply_text : RunReply → List ℕ
+reply_text Accepted = codes "ok\n"
+reply_text Empty = codes "empty\n"
+reply_text (Range row) = codes "range " ++ (decimal row ++ 10 ∷ [])
+reply_text (Mismatch upper) = codes "mismatch " ++ (frontier_text upper ++ 10 ∷ [])
+reply_text (Heavy weight) = codes "heavy " ++ (decimal weight ++ 10 ∷ [])
+reply_text (Rows rows) = flat_map row_text rows ++ codes ".\n"
+reply_text (Early since) = codes "early " ++ (decimal since ++ 10 ∷ [])
+reply_text (Late upper) = codes "late " ++ (frontier_text upper ++ 10 ∷ [])

@@ -1,0 +1,14 @@
+//! The texts that programs read and write: streams of bytes, the feed of `run` line by line, and its replies.
+#![tactic(auto)]
+
+mod feed_line_lists;
+mod feed_lines;
+mod feeds;
+mod limits;
+mod replies;
+
+pub use feed_line_lists::FeedLines;
+pub use feed_lines::FeedLine;
+pub use feeds::Feed;
+pub use limits::{MAX_BYTES, MAX_COMMANDS, MAX_ROWS};
+pub use replies::RunReply;

@@ -1,0 +1,50 @@
+-- The plain collection: what a collection is to those who use it.
+use Rattle.std.specs.Prelude.{ℕ, ◌+◌, ◌^◌, Option, Some, List, [], ◌++◌, nat_lt, nat_le, if◌then◌else◌}
+use Rattle.update_core.specs.declared.rows.Row.{Row}
+use Rattle.update_core.specs.declared.updates.Update.{Update}
+use Rattle.update_core.specs.Frontiers.{covers, is_at}
+use Rattle.update_core.specs.Updates.{cons, sum_of}
+
+-- The accepted updates, the time up to which they may have been moved, the frontier up to which they are known,
+-- and the sum of the absolute differences that were handed in.
+pub record Collection : Type 0 where
+  pub updates : List Update
+  pub since : ℕ
+  pub upper : Option ℕ
+  pub weight : ℕ
+
+abbrev pub empty_collection : Collection
+empty_collection = record { updates = []; since = 0; upper = Some 0; weight = 0 }
+
+-- what an append is answered
+pub data AppendAnswer : Type 0 where
+  accepted : AppendAnswer
+  mismatch : Option ℕ → AppendAnswer
+  heavy : ℕ → AppendAnswer
+
+-- A mismatch exactly where the upper isn't at the append's lower time; else heavy exactly where the weight would pass 2^62.
+abbrev pub append_answer : Collection → ℕ → ℕ → AppendAnswer
+append_answer c lower weight = if is_at c.upper lower then (if nat_le (c.weight + weight) (2 ^ 62) then accepted else heavy c.weight) else mismatch c.upper
+
+-- the collection with an accepted append: its updates are followed by the consolidated rows
+abbrev pub extended : Collection → List Update → Option ℕ → ℕ → Collection
+extended c rows upper weight = record { updates = c.updates ++ cons rows; since = c.since; upper = upper; weight = c.weight + weight }
+
+-- the collection after an append with this answer; only an accepted one changes it
+abbrev pub after_answer : AppendAnswer → Collection → List Update → Option ℕ → ℕ → Collection
+after_answer accepted c rows upper weight = extended c rows upper weight
+after_answer (mismatch u) c rows upper weight = c
+after_answer (heavy w) c rows upper weight = c
+
+abbrev pub after_append : Collection → List Update → ℕ → Option ℕ → ℕ → Collection
+after_append c rows lower upper weight = after_answer (append_answer c lower weight) c rows upper weight
+
+-- what a snapshot is answered
+pub data SnapshotAnswer : Type 0 where
+  content : List Row → SnapshotAnswer
+  early : ℕ → SnapshotAnswer
+  late : Option ℕ → SnapshotAnswer
+
+-- Early exactly where the time is before the since; else late exactly where the upper doesn't cover it; else the content at the time.
+abbrev pub snapshot_answer : Collection → ℕ → SnapshotAnswer
+snapshot_answer c t = if nat_lt t c.since then early c.since else (if covers c.upper t then content (sum_of c.updates t) else late c.upper)

@@ -1,0 +1,5 @@
+pub mod Frontiers
+pub mod Totals
+pub mod Weights
+pub mod Updates
+pub mod Collections

@@ -1,0 +1,22 @@
+// Laws of the definitions, each the contract of a function that does nothing.
+ghost use Rattle.std.specs.Prelude.{◌≡◌, ℕ, ◌≤◌, List, Option, ◌++◌, false};
+ghost use Rattle.std.specs.Ordering.{is_gt};
+ghost use Rattle.update_core.specs.declared.updates.Update.{Update};
+ghost use Rattle.update_core.specs.Frontiers.{frontier_cmp};
+ghost use Rattle.update_core.specs.Updates.{moved, sum_of, slice_of, cons, OutOf};
+
+/// A move to a time changes no sum from that time on.
+pub fn sum_after_move()
+    ensures { (us : List Update) (s t : ℕ) → s ≤ t → sum_of (moved us s) t ≡ sum_of us t }
+{}
+
+/// Parts may be consolidated first.
+pub fn cons_of_parts()
+    ensures { (us vs : List Update) → cons (cons us ++ vs) ≡ cons (us ++ vs) }
+{}
+
+/// A slice up to g and, when more has come past g, one from g on are one slice.
+pub fn slices_join()
+    ensures { (us more : List Update) (f g h : Option ℕ) → is_gt (frontier_cmp f g) ≡ false → is_gt (frontier_cmp g h) ≡ false → OutOf g more
+        → slice_of us f g ++ slice_of (us ++ more) g h ≡ slice_of (us ++ more) f h }
+{}

@@ -1,0 +1,165 @@
+// Consolidation, sums and slices of updates.
+ghost use Rattle.std.specs.Prelude.{◌≡◌, ◌≤◌, ◌^◌, IfOk, map, ◌&&◌};
+ghost use Rattle.update_core.specs.Frontiers.{covers, is_from};
+ghost use Rattle.update_core.specs.Updates.{weight_of, IsCons, IsSum, IsSlice, moved, cons, sum_of, moment_entry, datum_entry, row_entry, until, time_entry, between, slice_of};
+
+use crate::data::Datum;
+use crate::frontiers::Frontier;
+use crate::merging::consolidate_by;
+use crate::row_lists::RowList;
+use crate::rows::Row;
+use crate::update_lists::UpdateList;
+use crate::updates::Update;
+use std::alloc::{AllocError, Global};
+use std::collections::VecDeque;
+
+fn moment_entries(
+    alloc: Global,
+    updates: VecDeque<Update>,
+) -> Result<Vec<((Datum, u64), i64)>, AllocError>
+    ensures { IfOk result (λ out. out.items ≡ map moment_entry updates.items) }
+{
+    let mut rest = updates;
+    let mut out = Vec::new(alloc);
+    while let Some(update) = rest.pop_front() {
+        let Update { datum, time, diff } = update;
+        out.push(((datum, time), diff))?;
+    }
+    Ok(out)
+}
+
+fn updates_of(
+    alloc: Global,
+    entries: VecDeque<((Datum, u64), i64)>,
+) -> Result<UpdateList, AllocError>
+    ensures { IfOk result (λ out. map moment_entry out ≡ entries.items) }
+{
+    let mut rest = entries;
+    let mut out = UpdateList::new(alloc);
+    while let Some(((datum, time), diff)) = rest.pop_front() {
+        out.push(Update { datum, time, diff })?;
+    }
+    Ok(out)
+}
+
+/// For each pair of datum and time the sum of the differences, zeros left out, by datum and time.
+pub fn consolidate(alloc: Global, rows: UpdateList) -> Result<UpdateList, AllocError>
+    requires { weight_of rows ≤ 2 ^ 62 }
+    ensures sums { IfOk result (λ out. IsCons rows out) }
+    ensures exact { IfOk result (λ out. out ≡ cons rows) }
+{
+    let entries = moment_entries(alloc, VecDeque::from(rows.into_items()))?;
+    let merged = consolidate_by(alloc, entries)?;
+    updates_of(alloc, VecDeque::from(merged))
+}
+
+fn rows_of(alloc: Global, entries: VecDeque<(Datum, i64)>) -> Result<RowList, AllocError>
+    ensures { IfOk result (λ out. map row_entry out ≡ entries.items) }
+{
+    let mut rest = entries;
+    let mut out = RowList::new(alloc);
+    while let Some((datum, diff)) = rest.pop_front() {
+        out.push(Row { datum, diff })?;
+    }
+    Ok(out)
+}
+
+fn entries_until(alloc: Global, rows: &[Update], t: u64) -> Result<Vec<(Datum, i64)>, AllocError>
+    ensures { IfOk result (λ out. out.items ≡ map datum_entry (until t rows.now)) }
+{
+    let mut out = Vec::new(alloc);
+    for update in rows {
+        if update.time <= t {
+            out.push((update.datum.copy(alloc)?, update.diff))?;
+        }
+    }
+    Ok(out)
+}
+
+/// For each datum the sum of the differences up to a time, zeros left out, by datum.
+pub fn sum_at(alloc: Global, rows: &UpdateList, t: u64) -> Result<RowList, AllocError>
+    requires { weight_of rows.now ≤ 2 ^ 62 }
+    ensures sums { IfOk result (λ out. IsSum rows.now t out) }
+    ensures exact { IfOk result (λ out. out ≡ sum_of rows.now t) }
+{
+    let entries = entries_until(alloc, rows.as_slice(), t)?;
+    let merged = consolidate_by(alloc, entries)?;
+    rows_of(alloc, VecDeque::from(merged))
+}
+
+fn is_within(from: Frontier, to: Frontier, t: u64) -> bool
+    ensures { result ≡ (is_from from t && covers to t) }
+{
+    from.reaches(t) && to.covers(t)
+}
+
+fn entries_between(
+    alloc: Global,
+    rows: &[Update],
+    from: Frontier,
+    to: Frontier,
+) -> Result<Vec<((u64, Datum), i64)>, AllocError>
+    ensures { IfOk result (λ out. out.items ≡ map time_entry (between from to rows.now)) }
+{
+    let mut out = Vec::new(alloc);
+    for update in rows {
+        if is_within(from, to, update.time) {
+            out.push(((update.time, update.datum.copy(alloc)?), update.diff))?;
+        }
+    }
+    Ok(out)
+}
+
+fn updates_in_time(
+    alloc: Global,
+    entries: VecDeque<((u64, Datum), i64)>,
+) -> Result<UpdateList, AllocError>
+    ensures { IfOk result (λ out. map time_entry out ≡ entries.items) }
+{
+    let mut rest = entries;
+    let mut out = UpdateList::new(alloc);
+    while let Some(((time, datum), diff)) = rest.pop_front() {
+        out.push(Update { datum, time, diff })?;
+    }
+    Ok(out)
+}
+
+/// The consolidation of the updates from a frontier on that another covers, by time and datum.
+pub fn slice_between(
+    alloc: Global,
+    rows: &UpdateList,
+    from: Frontier,
+    to: Frontier,
+) -> Result<UpdateList, AllocError>
+    requires { weight_of rows.now ≤ 2 ^ 62 }
+    ensures sums { IfOk result (λ out. IsSlice rows.now from to out) }
+    ensures exact { IfOk result (λ out. out ≡ slice_of rows.now from to) }
+{
+    let entries = entries_between(alloc, rows.as_slice(), from, to)?;
+    let merged = consolidate_by(alloc, entries)?;
+    updates_in_time(alloc, VecDeque::from(merged))
+}
+
+/// Each time below since becomes since.
+pub fn advance(rows: &mut UpdateList, since: u64)
+    ensures { rows.new ≡ moved rows.old since }
+{
+    rows.advance(since);
+}
+
+fn weight_in(rows: &[Update]) -> u128
+    ensures { result ≡ weight_of rows.now }
+{
+    let mut total = 0u128;
+    for update in rows {
+        total += u128::from(update.diff.unsigned_abs());
+    }
+    total
+}
+
+/// The sum of the absolute differences.
+pub fn weight(rows: &UpdateList) -> u128
+    ensures { result ≡ weight_of rows.now }
+{
+    weight_in(rows.as_slice())
+}
