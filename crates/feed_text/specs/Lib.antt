@@ -1,4 +1,5 @@
 pub mod Streams
+pub mod MemStreams
 pub mod Lines
 pub mod Grammar
 pub mod Replies

@@ -1,14 +1,31 @@
 //! The texts that programs read and write: streams of bytes, the feed of `run` line by line, and its replies.
 #![tactic(auto)]
 
+mod adapters;
 mod feed_line_lists;
 mod feed_lines;
 mod feeds;
 mod limits;
+mod mem_sinks;
+mod mem_sources;
+mod read_faults;
+mod reading;
 mod replies;
+mod sinks;
+mod sources;
 
+pub use adapters::{ReaderSource, WriterSink};
 pub use feed_line_lists::FeedLines;
 pub use feed_lines::FeedLine;
 pub use feeds::Feed;
 pub use limits::{MAX_BYTES, MAX_COMMANDS, MAX_ROWS};
+pub use mem_sinks::MemSink;
+pub use mem_sources::MemSource;
+pub use read_faults::ReadFault;
+pub use reading::read_up_to;
 pub use replies::RunReply;
+pub use sinks::{Sink, SinkFault, put_all};
+pub use sources::{Source, SourceFault};
+
+#[cfg(test)]
+mod stream_tests;
