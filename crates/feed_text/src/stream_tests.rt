@@ -55,6 +55,7 @@ fn a_sink_takes_all_but_at_a_listed_put(rt: HostRuntime) -> Result<(), Fail> {
 }
 
 // A writer that takes two bytes at a time, and none once it has six.
+#[derive(Drop)]
 struct Narrow {
     taken: u8,
 }
