@@ -43,10 +43,12 @@ fn updates_of(
 }
 
 /// For each pair of datum and time the sum of the differences, zeros left out, by datum and time.
+/// It takes n log n steps for n updates, and fails only for want of memory. `weight` tests what it requires.
 pub fn consolidate(alloc: Global, rows: UpdateList) -> Result<UpdateList, AllocError>
     requires { weight_of rows ≤ 2 ^ 62 }
     ensures sums { IfOk result (λ out. IsCons rows out) }
     ensures exact { IfOk result (λ out. out ≡ cons rows) }
+    ensures weight { IfOk result (λ out. weight_of out ≤ weight_of rows) }
 {
     let entries = moment_entries(alloc, VecDeque::from(rows.into_items()))?;
     let merged = consolidate_by(alloc, entries)?;
@@ -77,6 +79,7 @@ fn entries_until(alloc: Global, rows: &[Update], t: u64) -> Result<Vec<(Datum, i
 }
 
 /// For each datum the sum of the differences up to a time, zeros left out, by datum.
+/// It takes n log n steps for n updates, and fails only for want of memory. `weight` tests what it requires.
 pub fn sum_at(alloc: Global, rows: &UpdateList, t: u64) -> Result<RowList, AllocError>
     requires { weight_of rows.now ≤ 2 ^ 62 }
     ensures sums { IfOk result (λ out. IsSum rows.now t out) }
@@ -125,6 +128,7 @@ fn updates_in_time(
 }
 
 /// The consolidation of the updates from a frontier on that another covers, by time and datum.
+/// It takes n log n steps for n updates, and fails only for want of memory. `weight` tests what it requires.
 pub fn slice_between(
     alloc: Global,
     rows: &UpdateList,
@@ -140,7 +144,7 @@ pub fn slice_between(
     updates_in_time(alloc, VecDeque::from(merged))
 }
 
-/// Each time below since becomes since.
+/// Each time below since becomes since. It takes no memory.
 pub fn advance(rows: &mut UpdateList, since: u64)
     ensures { rows.new ≡ moved rows.old since }
 {
@@ -157,7 +161,7 @@ fn weight_in(rows: &[Update]) -> u128
     total
 }
 
-/// The sum of the absolute differences.
+/// The sum of the absolute differences: the test for what `consolidate`, `sum_at` and `slice_between` require.
 pub fn weight(rows: &UpdateList) -> u128
     ensures { result ≡ weight_of rows.now }
 {
