@@ -1,7 +1,7 @@
 // Consolidation, sums and slices of updates.
 ghost use Rattle.std.specs.Prelude.{◌≡◌, ◌≤◌, ◌^◌, IfOk, map, ◌&&◌};
 ghost use Rattle.update_core.specs.Frontiers.{covers, is_from};
-ghost use Rattle.update_core.specs.Updates.{weight_of, IsCons, IsSum, IsSlice, moved, cons, sum_of, moment_entry, datum_entry, row_entry, until, time_entry, between, slice_of};
+ghost use Rattle.update_core.specs.Updates.{seen_datum, weight_of, IsCons, IsSum, IsSlice, moved, cons, sum_of, moment_entry, datum_entry, row_entry, until, time_entry, between, slice_of};
 
 use crate::data::Datum;
 use crate::frontiers::Frontier;
@@ -55,24 +55,29 @@ pub fn consolidate(alloc: Global, rows: UpdateList) -> Result<UpdateList, AllocE
     updates_of(alloc, VecDeque::from(merged))
 }
 
-fn rows_of(alloc: Global, entries: VecDeque<(Datum, i64)>) -> Result<RowList, AllocError>
-    ensures { IfOk result (λ out. map row_entry out ≡ entries.items) }
+fn rows_of(alloc: Global, entries: VecDeque<(&Datum, i64)>) -> Result<RowList, AllocError>
+    ensures { IfOk result (λ out. map row_entry out ≡ map seen_datum entries.entry.items) }
 {
     let mut rest = entries;
     let mut out = RowList::new(alloc);
     while let Some((datum, diff)) = rest.pop_front() {
+        let datum = datum.copy(alloc)?;
         out.push(Row { datum, diff })?;
     }
     Ok(out)
 }
 
-fn entries_until(alloc: Global, rows: &[Update], t: u64) -> Result<Vec<(Datum, i64)>, AllocError>
-    ensures { IfOk result (λ out. out.items ≡ map datum_entry (until t rows.now)) }
+fn entries_until<'a>(
+    alloc: Global,
+    rows: &'a [Update],
+    t: u64,
+) -> Result<Vec<(&'a Datum, i64)>, AllocError>
+    ensures { IfOk result (λ out. map seen_datum out.items ≡ map datum_entry (until t rows.now)) }
 {
     let mut out = Vec::new(alloc);
     for update in rows {
         if update.time <= t {
-            out.push((update.datum.copy(alloc)?, update.diff))?;
+            out.push((&update.datum, update.diff))?;
         }
     }
     Ok(out)
