@@ -6,7 +6,7 @@ use Rattle.std.specs.Map.{keys_of}
 use Rattle.std.specs.Ordering.{eq_by_cmp}
 use Rattle.std.specs.List.{AllByRecursion}
 use Rattle.std.specs.List.Sorted.{IsStrictlySortedBy}
-use Rattle.std.proofs.Common.{ℕ, ◌+◌, ◌≤◌, ◌^◌, arith}
+use Rattle.std.proofs.Common.{ℕ, ◌≤◌, ◌^◌, arith}
 use Rattle.std.proofs.lemmas.List.Sums.{sum_by-cons}
 use Rattle.std.specs.Borrow.{Bor}
 use Rattle.std.specs.Cmp.Lexicographic.{slice_cmp}
@@ -15,9 +15,10 @@ use Rattle.std.specs.Ordering.{nat_cmp}
 use Rattle.update_core.specs.declared.rows.Row.{Row}
 use Rattle.update_core.specs.declared.updates.Update.{Update}
 use Rattle.update_core.specs.Totals.{total, IsConsolidation}
-use Rattle.update_core.specs.Updates.{seen_datum, datum_entry, row_entry, until, IsSum, weight_of}
+use Rattle.std.specs.Prelude.{Option}
+use Rattle.update_core.specs.Updates.{seen_datum, seen_time, datum_entry, time_entry, time_cmp, row_entry, until, between, IsSum, IsSlice, weight_of}
 use Rattle.update_core.specs.Weights.{weight}
-use Rattle.update_core.proofs.UpdateLaws.{weight-until}
+use Rattle.update_core.proofs.UpdateLaws.{weight-until, weight-between}
 
 -- the entry with its key seen through f
 abbrev pub seen : {J K : Type 0} → (J → K) → J × ℤ → K × ℤ
@@ -75,3 +76,25 @@ sum-seen us t es cs out is c made =
     subst (λ xs. IsConsolidation (slice_cmp nat_cmp) xs (map row_entry out)) is
     (subst (λ ys. IsConsolidation (slice_cmp nat_cmp) (map seen_datum es) ys) (sym made)
     (consolidation-seen (slice_cmp nat_cmp) (λ (b : Bor (List ℕ)). b.now) borrowed datum_of_borrowed es cs c))
+
+in_time : ℕ × Bor (List ℕ) → ℕ × List ℕ
+in_time m = (m.0, m.1.now)
+
+borrowed_in_time : ℕ × List ℕ → ℕ × Bor (List ℕ)
+borrowed_in_time m = (m.0, record { ref_ptr = (0, 0); now = m.1 })
+
+moment_of_borrowed : (m : ℕ × List ℕ) → in_time (borrowed_in_time m) ≡ m
+unfolding in_time borrowed_in_time
+moment_of_borrowed m = refl
+
+pub weight_between-seen : (us : List Update) (f g : Option ℕ) (es : List ((ℕ × Bor (List ℕ)) × ℤ)) → map seen_time es ≡ map time_entry (between f g us) → weight_of us ≤ 2 ^ 62 → weight es ≤ 2 ^ 62
+unfolding in_time
+weight_between-seen us f g es is room = omega (arith, room, weight-between us f g, ap weight is, weight-seen in_time es)
+
+pub slice-seen : (us : List Update) (f g : Option ℕ) (es cs : List ((ℕ × Bor (List ℕ)) × ℤ)) (out : List Update) → map seen_time es ≡ map time_entry (between f g us)
+    → IsConsolidation (λ x y. time_cmp (x.0, x.1.now) (y.0, y.1.now)) es cs → map time_entry out ≡ map seen_time cs → IsSlice us f g out
+unfolding in_time
+slice-seen us f g es cs out is c made =
+    subst (λ xs. IsConsolidation time_cmp xs (map time_entry out)) is
+    (subst (λ ys. IsConsolidation time_cmp (map seen_time es) ys) (sym made)
+    (consolidation-seen time_cmp in_time borrowed_in_time moment_of_borrowed es cs c))

@@ -28,9 +28,12 @@ time_entry u = ((u.time, u.datum), u.diff)
 abbrev pub datum_entry : Update → List ℕ × ℤ
 datum_entry u = (u.datum, u.diff)
 
--- an entry whose datum is borrowed
+-- entries whose datum is borrowed
 abbrev pub seen_datum : Bor (List ℕ) × ℤ → List ℕ × ℤ
 seen_datum e = (e.0.now, e.1)
+
+abbrev pub seen_time : (ℕ × Bor (List ℕ)) × ℤ → (ℕ × List ℕ) × ℤ
+seen_time e = ((e.0.0, e.0.1.now), e.1)
 
 abbrev pub row_entry : Row → List ℕ × ℤ
 row_entry r = (r.datum, r.diff)

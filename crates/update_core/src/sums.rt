@@ -1,7 +1,7 @@
 // Consolidation, sums and slices of updates.
 ghost use Rattle.std.specs.Prelude.{◌≡◌, ◌≤◌, ◌^◌, IfOk, map, ◌&&◌};
 ghost use Rattle.update_core.specs.Frontiers.{covers, is_from};
-ghost use Rattle.update_core.specs.Updates.{seen_datum, weight_of, IsCons, IsSum, IsSlice, moved, cons, sum_of, moment_entry, datum_entry, row_entry, until, time_entry, between, slice_of};
+ghost use Rattle.update_core.specs.Updates.{seen_datum, seen_time, weight_of, IsCons, IsSum, IsSlice, moved, cons, sum_of, moment_entry, datum_entry, row_entry, until, time_entry, between, slice_of};
 
 use crate::data::Datum;
 use crate::frontiers::Frontier;
@@ -101,18 +101,18 @@ fn is_within(from: Frontier, to: Frontier, t: u64) -> bool
     from.reaches(t) && to.covers(t)
 }
 
-fn entries_between(
+fn entries_between<'a>(
     alloc: Global,
-    rows: &[Update],
+    rows: &'a [Update],
     from: Frontier,
     to: Frontier,
-) -> Result<Vec<((u64, Datum), i64)>, AllocError>
-    ensures { IfOk result (λ out. out.items ≡ map time_entry (between from to rows.now)) }
+) -> Result<Vec<((u64, &'a Datum), i64)>, AllocError>
+    ensures { IfOk result (λ out. map seen_time out.items ≡ map time_entry (between from to rows.now)) }
 {
     let mut out = Vec::new(alloc);
     for update in rows {
         if is_within(from, to, update.time) {
-            out.push(((update.time, update.datum.copy(alloc)?), update.diff))?;
+            out.push(((update.time, &update.datum), update.diff))?;
         }
     }
     Ok(out)
@@ -120,13 +120,14 @@ fn entries_between(
 
 fn updates_in_time(
     alloc: Global,
-    entries: VecDeque<((u64, Datum), i64)>,
+    entries: VecDeque<((u64, &Datum), i64)>,
 ) -> Result<UpdateList, AllocError>
-    ensures { IfOk result (λ out. map time_entry out ≡ entries.items) }
+    ensures { IfOk result (λ out. map time_entry out ≡ map seen_time entries.entry.items) }
 {
     let mut rest = entries;
     let mut out = UpdateList::new(alloc);
     while let Some(((time, datum), diff)) = rest.pop_front() {
+        let datum = datum.copy(alloc)?;
         out.push(Update { datum, time, diff })?;
     }
     Ok(out)

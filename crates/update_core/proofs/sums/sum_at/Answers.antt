@@ -1,4 +1,4 @@
-use Rattle.std.proofs.Common.{◌≡◌, ◌∙◌, IfOk, ap, map}
+use Rattle.std.proofs.Common.{◌≡◌, ◌∙◌, ap, map}
 use Rattle.std.proofs.lemmas.Result.{IfOk-weaker}
 use Rattle.update_core.specs.Updates.{IsSum, sum_of, until, datum_entry, row_entry, seen_datum}
 use Rattle.update_core.proofs.UpdateLaws.{is_sum}
