@@ -1,23 +1,21 @@
 -- Slices of a growing list join.
 use Rattle.std.proofs.Common.{◌≡◌, ◌≢◌, ℕ, ℤ, pos, ◌+ℤ◌, Bool, true, false, cond, not, ◌&&◌, ◌||◌, Option, Some, None, List, [], ◌∷◌, ◌++◌, map, refl, sym, ap, subst, ◌∙◌, arith}
-use Rattle.std.proofs.Math.IntN.{+ℤ_idl, +ℤ_idr, +ℤ_assoc}
+use Rattle.std.proofs.Math.IntN.{+ℤ_idl}
 use Rattle.std.proofs.lemmas.Int.{ints}
 use Rattle.std.proofs.lemmas.Bool.Decides.{nat_tests}
 use Rattle.std.specs.declared.cmp.Ordering.{Ordering}
-use Rattle.std.specs.declared.cmp.Ordering.TheVariants.{Less, Equal, Greater}
-use Rattle.std.specs.Cmp.{IsTotalOrder}
+use Rattle.std.specs.declared.cmp.Ordering.TheVariants.{Less}
 use Rattle.std.specs.Cmp.Lexicographic.{slice_cmp}
 use Rattle.std.specs.List.{AllByRecursion, filter}
 use Rattle.std.specs.List.Sorted.{IsStrictlySortedBy}
 use Rattle.std.specs.Map.{keys_of}
 use Rattle.std.specs.Ordering.{eq_by_cmp, is_gt, nat_cmp, ordering_then}
-use Rattle.std.specs.Prelude.{nat_le, nat_lt}
 use Rattle.update_core.specs.declared.updates.Update.{Update}
 use Rattle.update_core.specs.Frontiers.{covers, is_from, frontier_cmp}
 use Rattle.update_core.specs.Totals.{total, IsConsolidation, consolidated}
-use Rattle.update_core.specs.Updates.{time_cmp, time_entry, between, slice_of, IsSlice, update_in_time, OutOf}
+use Rattle.update_core.specs.Updates.{time_cmp, time_entry, between, slice_of, update_in_time, OutOf}
 use Rattle.update_core.proofs.Consolidated.{consolidated_is, keys-consolidated, total-append}
-use Rattle.update_core.proofs.UpdateLaws.{times_total, times_exact, is_slice}
+use Rattle.update_core.proofs.UpdateLaws.{times_total, is_slice}
 
 -- ---- frontiers and times
 covered_on : (g h : Option ℕ) (t : ℕ) → is_gt (frontier_cmp g h) ≡ false → covers g t ≡ true → covers h t ≡ true

@@ -1,6 +1,7 @@
 -- What a list of updates comes to.
 use Rattle.std.specs.Prelude.{◌≡◌, false, ℕ, ℤ, ◌&&◌, nat_le, max, Option, List, map, filter, sum_by}
 use Rattle.std.specs.declared.cmp.Ordering.{Ordering}
+use Rattle.std.specs.Borrow.{Bor}
 use Rattle.std.specs.List.{AllByRecursion}
 use Rattle.std.specs.Ordering.{nat_cmp, ordering_then}
 use Rattle.std.specs.Cmp.Lexicographic.{slice_cmp}
@@ -26,6 +27,13 @@ time_entry u = ((u.time, u.datum), u.diff)
 
 abbrev pub datum_entry : Update → List ℕ × ℤ
 datum_entry u = (u.datum, u.diff)
+
+-- entries whose datum is borrowed
+abbrev pub seen_datum : Bor (List ℕ) × ℤ → List ℕ × ℤ
+seen_datum e = (e.0.now, e.1)
+
+abbrev pub seen_time : (ℕ × Bor (List ℕ)) × ℤ → (ℕ × List ℕ) × ℤ
+seen_time e = ((e.0.0, e.0.1.now), e.1)
 
 abbrev pub row_entry : Row → List ℕ × ℤ
 row_entry r = (r.datum, r.diff)

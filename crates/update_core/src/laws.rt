@@ -1,9 +1,9 @@
 // Laws of the definitions, each the contract of a function that does nothing.
-ghost use Rattle.std.specs.Prelude.{◌≡◌, ℕ, ◌≤◌, List, Option, ◌++◌, false};
+ghost use Rattle.std.specs.Prelude.{◌≡◌, ℕ, ◌+◌, ◌≤◌, List, Option, ◌++◌, false};
 ghost use Rattle.std.specs.Ordering.{is_gt};
 ghost use Rattle.update_core.specs.declared.updates.Update.{Update};
 ghost use Rattle.update_core.specs.Frontiers.{frontier_cmp};
-ghost use Rattle.update_core.specs.Updates.{moved, sum_of, slice_of, cons, OutOf};
+ghost use Rattle.update_core.specs.Updates.{moved, sum_of, slice_of, cons, weight_of, OutOf};
 
 /// A move to a time changes no sum from that time on.
 pub fn sum_after_move()
@@ -19,4 +19,14 @@ pub fn cons_of_parts()
 pub fn slices_join()
     ensures { (us more : List Update) (f g h : Option ℕ) → is_gt (frontier_cmp f g) ≡ false → is_gt (frontier_cmp g h) ≡ false → OutOf g more
         → slice_of us f g ++ slice_of (us ++ more) g h ≡ slice_of (us ++ more) f h }
+{}
+
+/// Consolidation never raises the sum of the absolute differences.
+pub fn weight_of_cons()
+    ensures { (us : List Update) → weight_of (cons us) ≤ weight_of us }
+{}
+
+/// The weight of lists one after the other is the sum of theirs.
+pub fn weight_of_append()
+    ensures { (us vs : List Update) → weight_of (us ++ vs) ≡ weight_of us + weight_of vs }
 {}

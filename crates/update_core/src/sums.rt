@@ -1,7 +1,7 @@
 // Consolidation, sums and slices of updates.
 ghost use Rattle.std.specs.Prelude.{◌≡◌, ◌≤◌, ◌^◌, IfOk, map, ◌&&◌};
 ghost use Rattle.update_core.specs.Frontiers.{covers, is_from};
-ghost use Rattle.update_core.specs.Updates.{weight_of, IsCons, IsSum, IsSlice, moved, cons, sum_of, moment_entry, datum_entry, row_entry, until, time_entry, between, slice_of};
+ghost use Rattle.update_core.specs.Updates.{seen_datum, seen_time, weight_of, IsCons, IsSum, IsSlice, moved, cons, sum_of, moment_entry, datum_entry, row_entry, until, time_entry, between, slice_of};
 
 use crate::data::Datum;
 use crate::frontiers::Frontier;
@@ -43,40 +43,48 @@ fn updates_of(
 }
 
 /// For each pair of datum and time the sum of the differences, zeros left out, by datum and time.
+/// It takes n log n steps for n updates, and fails only for want of memory. `weight` tests what it requires.
 pub fn consolidate(alloc: Global, rows: UpdateList) -> Result<UpdateList, AllocError>
     requires { weight_of rows ≤ 2 ^ 62 }
     ensures sums { IfOk result (λ out. IsCons rows out) }
     ensures exact { IfOk result (λ out. out ≡ cons rows) }
+    ensures weight { IfOk result (λ out. weight_of out ≤ weight_of rows) }
 {
     let entries = moment_entries(alloc, VecDeque::from(rows.into_items()))?;
     let merged = consolidate_by(alloc, entries)?;
     updates_of(alloc, VecDeque::from(merged))
 }
 
-fn rows_of(alloc: Global, entries: VecDeque<(Datum, i64)>) -> Result<RowList, AllocError>
-    ensures { IfOk result (λ out. map row_entry out ≡ entries.items) }
+fn rows_of(alloc: Global, entries: VecDeque<(&Datum, i64)>) -> Result<RowList, AllocError>
+    ensures { IfOk result (λ out. map row_entry out ≡ map seen_datum entries.entry.items) }
 {
     let mut rest = entries;
     let mut out = RowList::new(alloc);
     while let Some((datum, diff)) = rest.pop_front() {
+        let datum = datum.copy(alloc)?;
         out.push(Row { datum, diff })?;
     }
     Ok(out)
 }
 
-fn entries_until(alloc: Global, rows: &[Update], t: u64) -> Result<Vec<(Datum, i64)>, AllocError>
-    ensures { IfOk result (λ out. out.items ≡ map datum_entry (until t rows.now)) }
+fn entries_until<'a>(
+    alloc: Global,
+    rows: &'a [Update],
+    t: u64,
+) -> Result<Vec<(&'a Datum, i64)>, AllocError>
+    ensures { IfOk result (λ out. map seen_datum out.items ≡ map datum_entry (until t rows.now)) }
 {
     let mut out = Vec::new(alloc);
     for update in rows {
         if update.time <= t {
-            out.push((update.datum.copy(alloc)?, update.diff))?;
+            out.push((&update.datum, update.diff))?;
         }
     }
     Ok(out)
 }
 
 /// For each datum the sum of the differences up to a time, zeros left out, by datum.
+/// It takes n log n steps for n updates, and fails only for want of memory. `weight` tests what it requires.
 pub fn sum_at(alloc: Global, rows: &UpdateList, t: u64) -> Result<RowList, AllocError>
     requires { weight_of rows.now ≤ 2 ^ 62 }
     ensures sums { IfOk result (λ out. IsSum rows.now t out) }
@@ -93,18 +101,18 @@ fn is_within(from: Frontier, to: Frontier, t: u64) -> bool
     from.reaches(t) && to.covers(t)
 }
 
-fn entries_between(
+fn entries_between<'a>(
     alloc: Global,
-    rows: &[Update],
+    rows: &'a [Update],
     from: Frontier,
     to: Frontier,
-) -> Result<Vec<((u64, Datum), i64)>, AllocError>
-    ensures { IfOk result (λ out. out.items ≡ map time_entry (between from to rows.now)) }
+) -> Result<Vec<((u64, &'a Datum), i64)>, AllocError>
+    ensures { IfOk result (λ out. map seen_time out.items ≡ map time_entry (between from to rows.now)) }
 {
     let mut out = Vec::new(alloc);
     for update in rows {
         if is_within(from, to, update.time) {
-            out.push(((update.time, update.datum.copy(alloc)?), update.diff))?;
+            out.push(((update.time, &update.datum), update.diff))?;
         }
     }
     Ok(out)
@@ -112,19 +120,21 @@ fn entries_between(
 
 fn updates_in_time(
     alloc: Global,
-    entries: VecDeque<((u64, Datum), i64)>,
+    entries: VecDeque<((u64, &Datum), i64)>,
 ) -> Result<UpdateList, AllocError>
-    ensures { IfOk result (λ out. map time_entry out ≡ entries.items) }
+    ensures { IfOk result (λ out. map time_entry out ≡ map seen_time entries.entry.items) }
 {
     let mut rest = entries;
     let mut out = UpdateList::new(alloc);
     while let Some(((time, datum), diff)) = rest.pop_front() {
+        let datum = datum.copy(alloc)?;
         out.push(Update { datum, time, diff })?;
     }
     Ok(out)
 }
 
 /// The consolidation of the updates from a frontier on that another covers, by time and datum.
+/// It takes n log n steps for n updates, and fails only for want of memory. `weight` tests what it requires.
 pub fn slice_between(
     alloc: Global,
     rows: &UpdateList,
@@ -140,7 +150,7 @@ pub fn slice_between(
     updates_in_time(alloc, VecDeque::from(merged))
 }
 
-/// Each time below since becomes since.
+/// Each time below since becomes since. It takes no memory.
 pub fn advance(rows: &mut UpdateList, since: u64)
     ensures { rows.new ≡ moved rows.old since }
 {
@@ -157,7 +167,7 @@ fn weight_in(rows: &[Update]) -> u128
     total
 }
 
-/// The sum of the absolute differences.
+/// The sum of the absolute differences: the test for what `consolidate`, `sum_at` and `slice_between` require.
 pub fn weight(rows: &UpdateList) -> u128
     ensures { result ≡ weight_of rows.now }
 {

@@ -49,6 +49,15 @@ impl UpdateList {
         Ok(())
     }
 
+    /// These updates after its own, moved and not copied. Where memory is refused the list is as it was.
+    pub fn append(&mut self, more: UpdateList) -> Result<(), AllocError>
+        ensures ok { OnOk result (self.new ≡ self.old ++ more) }
+        ensures err { OnErr result (self.new ≡ self.old) }
+    {
+        let mut items = more.into_items();
+        self.items.append(&mut items)
+    }
+
     /// The items in order.
     pub fn as_slice(&self) -> &[Update]
         ensures { result.now ≡ self.now }

@@ -1,18 +1,23 @@
-use Rattle.std.proofs.Common.{◌≡◌, ap, ◌∙◌, arith, map, sym, subst}
+use Rattle.std.proofs.Common.{◌≡◌, ◌∙◌, ap, map}
 use Rattle.std.proofs.lemmas.Result.{IfOk-weaker}
-use Rattle.update_core.specs.Totals.{IsConsolidation}
-use Rattle.update_core.specs.Weights.{weight}
-use Rattle.update_core.specs.Updates.{slice_of, between, time_entry, time_cmp}
-use Rattle.update_core.proofs.UpdateLaws.{is_slice, weight-between}
+use Rattle.update_core.specs.Updates.{IsSlice, slice_of, between, time_entry, seen_time}
+use Rattle.update_core.proofs.UpdateLaws.{is_slice}
+use Rattle.update_core.proofs.Seen.{weight_between-seen, slice-seen}
 use Rattle.update_core.proofs.sums.slice_between.Goals as goal
 
 pub consolidate_by-requires : goal.consolidate_by-requires
 consolidate_by-requires c =
-    omega (arith, ap weight c.in_ok-entries.ensures, ap (λ us. weight (map time_entry (between c.args.from c.args.to us))) c.as_slice.ensures, weight-between c.args.rows.now c.args.from c.args.to, c.requires)
+    weight_between-seen c.args.rows.now c.args.from c.args.to c.in_ok-entries.entries.items
+    (c.in_ok-entries.ensures ∙ ap (λ us. map time_entry (between c.args.from c.args.to us)) c.as_slice.ensures) c.requires
+
+pub returns-clause-sums : goal.returns-clause-sums
+returns-clause-sums c =
+    IfOk-weaker c.updates_in_time.result (λ out. map time_entry out ≡ map seen_time c.from.result.items) (λ out. IsSlice c.args.rows.now c.args.from c.args.to out) (λ out made.
+    slice-seen c.args.rows.now c.args.from c.args.to c.in_ok-entries.entries.items c.in_ok-merged.merged.items out
+    (c.in_ok-entries.ensures ∙ ap (λ us. map time_entry (between c.args.from c.args.to us)) c.as_slice.ensures)
+    c.in_ok-merged.ensures (made ∙ ap (map seen_time) c.from.ensures.0)) c.updates_in_time.ensures
 
 pub returns-clause-exact : goal.returns-clause-exact
 returns-clause-exact c =
-    let given = c.in_ok-entries.ensures ∙ ap (λ us. map time_entry (between c.args.from c.args.to us)) c.as_slice.ensures in
-    IfOk-weaker c.updates_in_time.result (λ out. map time_entry out ≡ c.from.result.items) (λ out. out ≡ slice_of c.args.rows.now c.args.from c.args.to) (λ out made.
-    is_slice c.args.rows.now c.args.from c.args.to out (subst (λ es. IsConsolidation time_cmp es (map time_entry out)) given
-    (subst (λ es. IsConsolidation time_cmp c.in_ok-entries.entries.items es) (sym (made ∙ c.from.ensures.0)) c.in_ok-merged.ensures))) c.updates_in_time.ensures
+    IfOk-weaker c.updates_in_time.result (λ out. IsSlice c.args.rows.now c.args.from c.args.to out) (λ out. out ≡ slice_of c.args.rows.now c.args.from c.args.to)
+    (is_slice c.args.rows.now c.args.from c.args.to) (returns-clause-sums c)
