@@ -1,11 +1,10 @@
 -- Whole commands: the lines of a feed are those of one list of commands.
-use Rattle.std.proofs.Common.{◌≡◌, ◌⊎◌, inl, inr, ℕ, ◌^◌, ◌<◌, ◌≤◌, Option, IfSome, List, [], ◌∷◌, ◌++◌, map, append_assoc, sym, ap, ◌∙◌, arith, refl}
+use Rattle.std.proofs.Common.{◌≡◌, ℕ, List, [], ◌∷◌, ◌++◌, map, append_assoc, sym, ap, ◌∙◌, refl}
 use Rattle.std.specs.List.{AllByRecursion}
-use Rattle.update_core.specs.declared.appends.FeedAppend.{FeedAppend}
 use Rattle.update_core.specs.declared.updates.Update.{Update}
 use Rattle.feed_text.specs.declared.feed_lines.FeedLine.{FeedLine}
 use Rattle.feed_text.specs.declared.feed_lines.FeedLine.TheVariants.{Append, Snapshot}
-use Rattle.feed_text.specs.Grammar.{append_line, snapshot_line, row_line, dot_line, command_lines, feed_lines, IsRow, IsCommand}
+use Rattle.feed_text.specs.Grammar.{row_line, dot_line, command_lines, feed_lines, IsRow, IsCommand}
 use Rattle.feed_text.proofs.Rows.{row_one, append_one, snapshot_one, append_no_snapshot, row_no_dot}
 
 -- rows up to a dot are the same rows, and so is what comes after it

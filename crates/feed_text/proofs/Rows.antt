@@ -1,5 +1,5 @@
 -- The lines of a feed: each has one value, and no two kinds share a line.
-use Rattle.std.proofs.Common.{◌≡◌, ◌≢◌, ℕ, ◌^◌, ◌<◌, ◌≤◌, ℤ, Option, IfSome, List, [], ◌∷◌, ◌++◌, refl, sym, ap, ◌∙◌, arith}
+use Rattle.std.proofs.Common.{◌≡◌, ℕ, ◌^◌, ◌<◌, Option, IfSome, List, [], ◌∷◌, ◌++◌, refl, arith}
 use Rattle.std.specs.Fmt.{decimal, signed_decimal}
 use Rattle.std.specs.Int.{IsInRange}
 use Rattle.std.proofs.lemmas.Fmt.{decimal_injective}
@@ -10,9 +10,9 @@ use Rattle.feed_text.proofs.Words.{decimal_spaceless, signed_spaceless, first_di
 pub row_one : (u v : Update) → IsRow u → IsRow v → row_line u ≡ row_line v → u ≡ v
 row_one u v hu hv e =
     let outer = cut_once (decimal u.time) (decimal v.time) (signed_decimal u.diff ++ 32 ∷ u.datum) (signed_decimal v.diff ++ 32 ∷ v.datum)
-        (decimal_spaceless u.time hu.time) (decimal_spaceless v.time hv.time) e in
+    (decimal_spaceless u.time hu.time) (decimal_spaceless v.time hv.time) e in
     let inner = cut_once (signed_decimal u.diff) (signed_decimal v.diff) u.datum v.datum
-        (signed_spaceless u.diff hu.diff) (signed_spaceless v.diff hv.diff) outer.1 in
+    (signed_spaceless u.diff hu.diff) (signed_spaceless v.diff hv.diff) outer.1 in
     let time = decimal_injective u.time v.time hu.time hv.time outer.0 in
     let diff = signed_one u.diff v.diff hu.diff hv.diff inner.0 in
     λ i. record { datum = inner.1 i; time = time i; diff = diff i }

@@ -1,5 +1,5 @@
 -- The words of a line: which bytes they have, and that each has one value.
-use Rattle.std.proofs.Common.{◌≡◌, ◌≢◌, ℕ, suc, ◌^◌, ◌<◌, ◌≤◌, ℤ, pos, negsuc, w64, FitsSigned, Option, Some, None, IfSome, List, [], ◌∷◌, ◌++◌, length, codes, ap, append-nil, ◌∙◌, sym, arith}
+use Rattle.std.proofs.Common.{◌≡◌, ◌≢◌, ℕ, suc, ◌^◌, ◌<◌, ℤ, pos, negsuc, w64, FitsSigned, Option, Some, None, IfSome, List, [], ◌∷◌, ◌++◌, length, codes, ap, append-nil, ◌∙◌, sym, arith}
 use Rattle.std.specs.Fmt.{decimal, signed_decimal}
 use Rattle.std.specs.Int.{IsInRange}
 use Rattle.std.specs.List.{AllByRecursion}
