@@ -1,5 +1,5 @@
 -- Whole commands: the lines of a feed are those of one list of commands.
-use Rattle.std.proofs.Common.{◌≡◌, ℕ, List, [], ◌∷◌, ◌++◌, map, append_assoc, sym, ap, ◌∙◌, refl}
+use Rattle.std.proofs.Common.{◌≡◌, ℕ, List, [], ◌∷◌, ◌++◌, map, append_assoc, append-nil, sym, ap, ◌∙◌, refl}
 use Rattle.std.specs.List.{AllByRecursion}
 use Rattle.update_core.specs.declared.updates.Update.{Update}
 use Rattle.feed_text.specs.declared.feed_lines.FeedLine.{FeedLine}
@@ -44,3 +44,14 @@ commands_one (c ∷ cs) (f ∷ fs) ys hc hf e =
     let first = command_one c f (feed_lines cs ++ ys) (feed_lines fs) hc.0 hf.0 (sym (append_assoc (command_lines c) (feed_lines cs) ys) ∙ e) in
     let rest = commands_one cs fs ys hc.1 hf.1 first.1 in
     (rest.0, (λ i. sym first.0 i ∷ rest.1 i), rest.2)
+
+-- lines are those of one feed
+pub feeds_one : (fs gs : List FeedLine) → AllByRecursion IsCommand fs → AllByRecursion IsCommand gs → feed_lines fs ≡ feed_lines gs → fs ≡ gs
+feeds_one fs gs hf hg e =
+    let one = commands_one fs gs [] hf hg (append-nil (feed_lines fs) ∙ e) in
+    none one.0 one.2 one.1
+  where
+    none : (rest : List FeedLine) → feed_lines rest ≡ [] → gs ≡ fs ++ rest → fs ≡ gs
+    none [] e is = sym (is ∙ append-nil fs)
+    none (Append a ∷ rest) e is = cc
+    none (Snapshot t ∷ rest) e is = cc
