@@ -4,6 +4,7 @@
 mod feed_line_lists;
 mod feed_lines;
 mod feeds;
+pub mod laws;
 mod limits;
 mod replies;
 
