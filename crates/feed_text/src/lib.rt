@@ -5,6 +5,7 @@ mod adapters;
 mod feed_line_lists;
 mod feed_lines;
 mod feeds;
+pub mod laws;
 mod limits;
 mod mem_sinks;
 mod mem_sources;
