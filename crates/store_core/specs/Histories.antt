@@ -46,6 +46,12 @@ with_entry h e = record { start = h.start; trail = h.trail ++ e ∷ [] }
 abbrev pub entry_of : ℕ → Call → Outcome → Entry
 entry_of client call outcome = record { client = client; call = call; outcome = outcome }
 
+-- how many faults an outcome is
+abbrev pub faults_of : Outcome → ℕ
+faults_of Took = 0
+faults_of FailedTook = 1
+faults_of FailedLost = 1
+
 -- Where the history is told, the call is its next entry, and the reply is that entry's. Where it isn't, it stays untold.
 abbrev pub Adds : Option History → Option History → ℕ → Call → Reply → Type 0
 Adds None new client call r = new ≡ None

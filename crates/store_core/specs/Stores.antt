@@ -109,16 +109,3 @@ after_call s (calls.Truncate shard below) = with_log s shard (truncated (s.logs 
 after_call s (calls.Get key) = s
 after_call s (calls.Set key bytes) = with_blob s key (Some bytes)
 after_call s (calls.Delete key) = with_blob s key None
-
--- a store with blobs set in turn, and with logs
-abbrev pub with_blobs : (PartKey → Option (List ℕ)) → List (PartKey × List ℕ) → PartKey → Option (List ℕ)
-with_blobs m [] = m
-with_blobs m (b ∷ bs) = with_blobs (set_at key_cmp m b.0 (Some b.1)) bs
-
-abbrev pub with_logs : (ShardId → Log) → List (ShardId × Log) → ShardId → Log
-with_logs m [] = m
-with_logs m (l ∷ ls) = with_logs (set_at shard_cmp m l.0 l.1) ls
-
--- the store that starts with blobs and logs
-abbrev pub starting_store : List (PartKey × List ℕ) → List (ShardId × Log) → Stored
-starting_store blobs logs = record { blobs = with_blobs (λ k. None) blobs; logs = with_logs (λ s. no_log) logs }

@@ -36,8 +36,7 @@ pub fn set_log(
     shard: ShardId,
     log: ShardLog,
 ) -> Result<(), AllocError>
-    ensures ok { OnOk result (logs_of logs.new ≡ set_at shard_cmp (logs_of logs.old) shard log) }
-    ensures err { OnErr result (logs_of logs.new ≡ logs_of logs.old) }
+    ensures { OnOk result (get shard_cmp logs.new ≡ set_at shard_cmp (get shard_cmp logs.old) shard (Some log)) }
 {
     logs.insert(shard, log)?;
     Ok(())
@@ -164,7 +163,8 @@ fn cas(
 
 impl Contents {
     pub fn new(alloc: Global) -> Contents
-        ensures { stored_of result ≡ empty_store }
+        ensures empty { stored_of result ≡ empty_store }
+        ensures logs { get shard_cmp result.logs ≡ (λ _. None) }
     {
         Contents {
             blobs: BTreeMap::new(alloc),

@@ -9,14 +9,15 @@ use crate::stores::Store;
 use crate::turns::Turn;
 use std::alloc::AllocError;
 
-/// The way of the one client of a store.
+/// The way of the one client of a store: the store, and the number that the client's entries carry.
 #[derive(Drop)]
 pub struct DirectPort<'a, S: Store> {
-    store: &'a mut S,
-    client: u64,
+    pub store: &'a mut S,
+    pub client: u64,
 }
 
 impl<'a, S: Store> DirectPort<'a, S> {
+    /// A port that calls this store, which takes no memory.
     pub fn new(store: &'a mut S, client: u64) -> DirectPort<'a, S>
         ensures client { ⟦<DirectPort<'a, S> as Port>⟧.client result ≡ client }
         ensures front { ⟦<DirectPort<'a, S> as Port>⟧.front result ≡ S.history store.old }
@@ -38,6 +39,7 @@ impl<'a, S: Store> Port for DirectPort<'a, S> {
 
     ghost loan = { λ p. Some p.store.ghost_name };
 
+    /// The store's reply: one entry and no other. It is never `Busy`, and fails only for want of memory.
     fn try_call(&mut self, call: &Call) -> Result<Turn, AllocError>
         ensures seen { IfOk result (λ turn. Sees self.old.client (S.history self.old.store.now) (S.history self.new.store.now) call.now turn) }
         // One entry and no other, and never Busy.

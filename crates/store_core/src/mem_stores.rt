@@ -1,26 +1,26 @@
 // A store in memory, which fails where it is told to.
 ghost use Rattle.std.specs.Prelude.{◌≡◌, ◌≢◌, ◌≤◌, [], ◌∷◌, ◌++◌, Some, None, length, IfOk, OnOk, OnErr};
-ghost use Rattle.causes.specs.Causes.{Rose};
-ghost use Rattle.store_core.specs.Stores.{empty_store, starting_store};
+ghost use Rattle.causes.specs.Causes.{Counts, Rose};
+ghost use Rattle.store_core.specs.Stores.{empty_store};
+ghost use Rattle.std.specs.List.{AllByRecursion, IsDistinct};
+ghost use Rattle.std.specs.Map.{keys_of};
+ghost use Rattle.store_core.specs.Starting.{CanStart, same_key, same_shard, shards_of, starting_store};
 ghost use Rattle.store_core.specs.Contents.{stored_of};
 ghost use Rattle.store_core.specs.Faults.{outcome_at};
-ghost use Rattle.store_core.specs.Histories.{replay, Adds, IsReplyTo, reply_by, after_outcome, entry_of};
+ghost use Rattle.store_core.specs.Histories.{replay, Adds, IsReplyTo, reply_by, after_outcome, faults_of, entry_of, with_entry};
 
-use crate::byte_strings::Bytes;
+use crate::blob_lists::BlobList;
 use crate::calls::Call;
 use crate::contents::Contents;
 use crate::entries::Entry;
 use crate::fault_lists::FaultList;
 use crate::outcomes::Outcome;
-use crate::part_keys::PartKey;
 use crate::replies::Reply;
-use crate::shard_logs::ShardLog;
-use crate::shards::ShardId;
+use crate::shard_lists::ShardList;
 use crate::starting::{Twice, starting_twice};
 use crate::stores::Store;
 use causes::one_more;
 use std::alloc::{AllocError, Global};
-use std::collections::BTreeMap;
 
 /// A store in memory, with what it has been asked.
 #[derive(Drop)]
@@ -36,6 +36,7 @@ pub struct MemStore {
 
 // The count of failed calls after one with this outcome.
 fn failed_after(failed: u64, outcome: Outcome) -> u64
+    ensures counted { Counts (faults_of outcome) failed result }
     ensures later { failed ≤ result }
     ensures rose { outcome ≢ Outcome.Took → Rose failed result }
 {
@@ -67,10 +68,13 @@ fn take(
 }
 
 impl MemStore {
+    ghost use Rattle.store_core.specs.Memory.{history_of, listed_faults, failed_calls};
+
+    /// An empty store, which fails at the listed calls. It takes no memory.
     pub fn new(alloc: Global, faults: FaultList) -> MemStore
-        ensures start { stored_of result.start ≡ empty_store }
-        ensures trail { result.trail.items ≡ [] }
-        ensures faults { result.faults ≡ faults }
+        ensures history { history_of result ≡ record { start = empty_store; trail = [] } }
+        ensures faults { listed_faults result ≡ faults }
+        ensures failed { failed_calls result ≡ 0 }
     {
         MemStore {
             alloc,
@@ -82,18 +86,22 @@ impl MemStore {
         }
     }
 
-    /// A store that starts with these blobs and logs. Each key and each shard stands once.
+    /// A store that starts with these blobs and these shards' versions, and fails at the listed calls. It fails only for
+    /// want of memory.
     pub fn starting(
         alloc: Global,
-        blobs: Vec<(PartKey, Bytes)>,
-        logs: Vec<(ShardId, ShardLog)>,
+        blobs: BlobList,
+        shards: ShardList,
         faults: FaultList,
     ) -> Result<MemStore, AllocError>
-        ensures start { IfOk result (λ store. stored_of store.start ≡ starting_store blobs.items logs.items) }
-        ensures trail { IfOk result (λ store. store.trail.items ≡ []) }
-        ensures faults { IfOk result (λ store. store.faults ≡ faults) }
+        requires keys { IsDistinct same_key (keys_of blobs) }
+        requires shards { IsDistinct same_shard (shards_of shards) }
+        requires versions { AllByRecursion CanStart shards }
+        ensures history { IfOk result (λ store. history_of store ≡ record { start = starting_store blobs shards; trail = [] }) }
+        ensures faults { IfOk result (λ store. listed_faults store ≡ faults) }
+        ensures failed { IfOk result (λ store. failed_calls store ≡ 0) }
     {
-        let Twice { first, second } = starting_twice(alloc, blobs, logs)?;
+        let Twice { first, second } = starting_twice(alloc, blobs, shards)?;
         Ok(MemStore {
             alloc,
             faults,
@@ -104,30 +112,34 @@ impl MemStore {
         })
     }
 
+    /// The calls that it has answered, in order.
     pub fn trail(&self) -> &[Entry]
-        ensures { result.now ≡ self.now.trail.items }
+        ensures { result.now ≡ (history_of self.now).trail }
     {
         &self.trail
     }
 }
 
 impl Store for MemStore {
-    ghost use Rattle.store_core.specs.Memory.{told};
+    ghost use Rattle.store_core.specs.Memory.{told, history_of, listed_faults, failed_calls};
 
     ghost history = { told };
 
-    ghost faults = { λ m. m.failed };
+    ghost faults = { failed_calls };
 
+    /// As the table of calls has it. The call whose number is listed fails: the first call that was answered has number 0.
     fn call(&mut self, client: u64, call: &Call) -> Result<Reply, AllocError>
         ensures entry { IfOk result (λ reply. Adds (told self.old) (told self.new) client call.now reply) }
         ensures memory { OnErr result (told self.new ≡ told self.old) }
         ensures shape { IfOk result (λ reply. IsReplyTo call.now reply) }
-        ensures cause { IfOk result (λ reply. reply ≡ Reply.Failed → Rose self.old.failed self.new.failed) }
-        ensures later { self.old.failed ≤ self.new.failed }
+        ensures cause { IfOk result (λ reply. reply ≡ Reply.Failed → Rose (failed_calls self.old) (failed_calls self.new)) }
+        ensures later { failed_calls self.old ≤ failed_calls self.new }
 
         // It fails exactly at the listed places.
-        ensures exact { OnOk result (self.new.trail.items ≡ self.old.trail.items ++ entry_of client call.now (outcome_at self.old.faults (length self.old.trail.items)) ∷ []) }
-        ensures faults { self.new.faults ≡ self.old.faults }
+        ensures exact { OnOk result (history_of self.new ≡ with_entry (history_of self.old) (entry_of client call.now (outcome_at (listed_faults self.old) (length (history_of self.old).trail)))) }
+        ensures counted { OnOk result (Counts (faults_of (outcome_at (listed_faults self.old) (length (history_of self.old).trail))) (failed_calls self.old) (failed_calls self.new)) }
+        ensures uncounted { OnErr result (failed_calls self.new ≡ failed_calls self.old) }
+        ensures faults { listed_faults self.new ≡ listed_faults self.old }
     {
         let outcome = self.faults.outcome_of(self.trail.len() as u64);
         let copy = call.copy()?;

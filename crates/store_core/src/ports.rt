@@ -26,6 +26,7 @@ pub trait Port {
     /// The name of the loan that it holds, where it holds one.
     ghost loan: { Self → Option GName };
 
+    /// Asks the store once, or finds it taken. It fails only for want of memory.
     fn try_call(&mut self, call: &Call) -> Result<Turn, AllocError>
         // A reply is one entry of this client, after entries of others; Busy is none.
         ensures seen { IfOk result (λ turn. Sees (client self.old) (front self.old) (front self.new) call.now turn) }

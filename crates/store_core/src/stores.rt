@@ -15,6 +15,7 @@ pub trait Store {
     /// How often a call has failed.
     ghost faults: { Self → ℕ };
 
+    /// Answers a call of a client. It fails only for want of memory.
     fn call(&mut self, client: u64, call: &Call) -> Result<Reply, AllocError>
         // One more entry, with the reply of the table for the history so far.
         ensures entry { IfOk result (λ reply. Adds (history self.old) (history self.new) client call.now reply) }
