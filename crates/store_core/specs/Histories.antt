@@ -10,32 +10,37 @@ use Rattle.store_core.specs.declared.outcomes.Outcome.TheVariants.{Took, FailedT
 use Rattle.store_core.specs.declared.entries.Entry.{Entry}
 use Rattle.store_core.specs.Stores.{Stored, reply_of, after_call}
 
--- the store after an entry: a call that failed took effect or didn't
+-- the store after a call: one that failed took effect or didn't
 abbrev pub after_outcome : Stored → Call → Outcome → Stored
 after_outcome s c Took = after_call s c
 after_outcome s c FailedTook = after_call s c
 after_outcome s c FailedLost = s
 
+-- the store after an entry
 abbrev pub next : Stored → Entry → Stored
 next s e = after_outcome s e.call e.outcome
 
--- the reply to an entry
+-- the reply to a call with an outcome
 abbrev pub reply_by : Stored → Call → Outcome → Reply
 reply_by s c Took = reply_of s c
 reply_by s c FailedTook = replies.Failed
 reply_by s c FailedLost = replies.Failed
 
+-- the reply to an entry
 abbrev pub reply : Stored → Entry → Reply
 reply s e = reply_by s e.call e.outcome
 
+-- the store after entries
 abbrev pub replay : Stored → List Entry → Stored
 replay s [] = s
 replay s (e ∷ es) = replay (next s e) es
 
+-- a store at its start, and what it has been asked since
 pub record History : Type 0 where
   pub start : Stored
   pub trail : List Entry
 
+-- the store at the end of a history
 abbrev pub store_after : History → Stored
 store_after h = replay h.start h.trail
 
@@ -43,6 +48,7 @@ store_after h = replay h.start h.trail
 abbrev pub with_entry : History → Entry → History
 with_entry h e = record { start = h.start; trail = h.trail ++ e ∷ [] }
 
+-- the entry of a client's call
 abbrev pub entry_of : ℕ → Call → Outcome → Entry
 entry_of client call outcome = record { client = client; call = call; outcome = outcome }
 

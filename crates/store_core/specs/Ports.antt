@@ -16,11 +16,16 @@ pub record Answered : Type 0 where
   pub entry : Entry
   pub reply : Reply
 
+-- an entry with a reply
+abbrev pub answered : Entry → Reply → Answered
+answered e r = record { entry = e; reply = r }
+
 -- the entries of one client, each with its reply
 abbrev pub mine_from : Stored → List Entry → ℕ → List Answered
 mine_from s [] c = []
-mine_from s (e ∷ es) c = if e.client == c then record { entry = e; reply = reply s e } ∷ mine_from (next s e) es c else mine_from (next s e) es c
+mine_from s (e ∷ es) c = if e.client == c then answered e (reply s e) ∷ mine_from (next s e) es c else mine_from (next s e) es c
 
+-- the entries of one client in a history, each with the reply that it had
 abbrev pub mine : History → ℕ → List Answered
 mine h c = mine_from h.start h.trail c
 
@@ -28,6 +33,7 @@ mine h c = mine_from h.start h.trail c
 abbrev pub with_entries : History → List Entry → History
 with_entries h es = record { start = h.start; trail = h.trail ++ es }
 
+-- none is of the client
 abbrev pub OfOthers : ℕ → List Entry → Type 0
 OfOthers client es = AllByRecursion (λ e. e.client ≢ client) es
 
@@ -49,14 +55,17 @@ abbrev pub GainsWhereTold : ℕ → Option History → Option History → Call �
 GainsWhereTold client None new call r = new ≡ None
 GainsWhereTold client (Some h) new call r = (k : History) × (new ≡ Some k) × Gains client h k call r
 
+-- what a turn at a port tells of its front
 abbrev pub Sees : ℕ → Option History → Option History → Call → Turn → Type 0
 Sees client old new call turns.Busy = new ≡ old
 Sees client old new call (turns.Reply r) = GainsWhereTold client old new call r
 
+-- a reply is of the call's kind
 abbrev pub IsTurnFor : Call → Turn → Type 0
 IsTurnFor call turns.Busy = ⊤
 IsTurnFor call (turns.Reply r) = IsReplyTo call r
 
+-- the reply is Failed
 abbrev pub IsFailure : Turn → Type 0
 IsFailure turns.Busy = ⊥
 IsFailure (turns.Reply r) = r ≡ replies.Failed

@@ -15,31 +15,37 @@ pub record Log : Type 0 where
   pub first : ℕ
   pub versions : List (List ℕ)
 
+-- blobs by key, and versions by shard
 pub record Stored : Type 0 where
   pub blobs : PartKey → Option (List ℕ)
   pub logs : ShardId → Log
 
+-- the log of a shard with no version
 abbrev pub no_log : Log
 no_log = record { first = 0; versions = [] }
 
+-- the store with nothing in it
 abbrev pub empty_store : Stored
 empty_store = record { blobs = λ k. None; logs = λ s. no_log }
 
--- the orders of shards and keys
+-- the order of shards
 abbrev pub shard_cmp : ShardId → ShardId → Ordering
 shard_cmp a b = nat_cmp a.0 b.0
 
+-- the order of keys
 abbrev pub key_cmp : PartKey → PartKey → Ordering
 key_cmp a b = ordering_then (shard_cmp a.shard b.shard) (ordering_then (nat_cmp a.member b.member) (ordering_then (nat_cmp a.token b.token) (nat_cmp a.index b.index)))
 
--- the live versions with their numbers
+-- versions with these bytes, numbered from n on
 abbrev pub numbered : ℕ → List (List ℕ) → List Version
 numbered n [] = []
 numbered n (b ∷ bs) = record { number = n; bytes = b } ∷ numbered (n + 1) bs
 
+-- the live versions of a log
 abbrev pub live : Log → List Version
 live log = numbered log.first log.versions
 
+-- the last of a list
 abbrev pub last_of : {A : Type 0} → List A → Option A
 last_of [] = None
 last_of (x ∷ []) = Some x
@@ -49,16 +55,19 @@ last_of (x ∷ y ∷ xs) = last_of (y ∷ xs)
 abbrev pub last_number : Log → Option ℕ
 last_number log = if nat_lt 0 (length log.versions) then Some (log.first + length log.versions - 1) else None
 
+-- whether two numbers, or their want, are one
 abbrev pub same_number : Option ℕ → Option ℕ → Bool
 same_number None None = true
 same_number None (Some b) = false
 same_number (Some a) None = false
 same_number (Some a) (Some b) = a == b
 
+-- whether no number follows
 abbrev pub is_last_number : Option ℕ → Bool
 is_last_number None = false
 is_last_number (Some n) = n == 2 ^ 64 - 1
 
+-- the number of the next version
 abbrev pub next_number : Option ℕ → ℕ
 next_number None = 0
 next_number (Some n) = n + 1
@@ -67,26 +76,31 @@ next_number (Some n) = n + 1
 abbrev pub set_at : {K X : Type 0} → (K → K → Ordering) → (K → X) → K → X → K → X
 set_at R m k v q = if is_eq (R k q) then v else m q
 
+-- the store with one key changed
 abbrev pub with_blob : Stored → PartKey → Option (List ℕ) → Stored
 with_blob s k v = record { blobs = set_at key_cmp s.blobs k v; logs = s.logs }
 
+-- the store with one shard changed
 abbrev pub with_log : Stored → ShardId → Log → Stored
 with_log s d log = record { blobs = s.blobs; logs = set_at shard_cmp s.logs d log }
 
--- the log with one more version at its end; the versions below a number go, but the last stays
+-- the log with one more version at its end
 abbrev pub committed : Log → List ℕ → Log
 committed log bytes = record { first = log.first; versions = log.versions ++ bytes ∷ [] }
 
+-- how many versions a Truncate removes: those below the number, but never the last
 abbrev pub gone : Log → ℕ → ℕ
 gone log below = min (below - log.first) (length log.versions - 1)
 
+-- the log without them
 abbrev pub truncated : Log → ℕ → Log
 truncated log below = record { first = log.first + gone log below; versions = drop (gone log below) log.versions }
 
--- what a Cas answers, and the log that it leaves
+-- what a Cas answers
 abbrev pub cas_reply : Log → Option ℕ → Reply
 cas_reply log expected = if same_number expected (last_number log) then (if is_last_number expected then replies.Spent else replies.Committed (next_number expected)) else replies.Mismatch
 
+-- the log that a Cas leaves
 abbrev pub cas_log : Log → Option ℕ → List ℕ → Log
 cas_log log expected bytes = if same_number expected (last_number log) then (if is_last_number expected then log else committed log bytes) else log
 

@@ -10,6 +10,7 @@ mod direct_ports;
 mod entries;
 mod fault_lists;
 mod faults;
+pub mod laws;
 mod mem_stores;
 mod outcomes;
 mod part_keys;
