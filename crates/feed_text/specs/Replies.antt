@@ -21,3 +21,7 @@ reply_text (Heavy weight) = codes "heavy " ++ (decimal weight ++ 10 ∷ [])
 reply_text (Rows rows) = flat_map row_text rows ++ codes ".\n"
 reply_text (Early since) = codes "early " ++ (decimal since ++ 10 ∷ [])
 reply_text (Late upper) = codes "late " ++ (frontier_text upper ++ 10 ∷ [])
+
+-- `line N`, which names the first line at fault
+abbrev pub line_fault_text : ℕ → List ℕ
+line_fault_text number = codes "line " ++ (decimal number ++ 10 ∷ [])

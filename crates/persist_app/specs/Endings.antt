@@ -1,0 +1,77 @@
+-- How a program's call ends: its status, and what was read and written.
+use Rattle.std.specs.Prelude.{◌≡◌, ◌⊎◌, ◌≤◌, ⊤, ℕ, Option, List, [], ◌∷◌, ◌++◌, codes}
+use Rattle.causes.specs.Causes.{Rose}
+use Rattle.feed_text.specs.declared.feed_lines.FeedLine.{FeedLine}
+use Rattle.feed_text.specs.Grammar.{Spells, IsFirstFault}
+use Rattle.feed_text.specs.Streams.{Left, AtEnd, Gains}
+use Rattle.feed_text.specs.Replies.{line_fault_text}
+use Rattle.persist_app.specs.declared.endings.Ending.{Ending}
+use Rattle.persist_app.specs.declared.endings.Ending.TheVariants as endings
+use Rattle.persist_app.specs.PlainRuns.{empty_view, plain_run}
+
+-- the words are the one word `run`
+abbrev pub IsRun : List (List ℕ) → Type 0
+IsRun words = words ≡ codes "run" ∷ []
+
+-- the last lines of what doesn't end well
+abbrev pub words_text : List ℕ
+words_text = codes "words\n"
+
+abbrev pub input_failed_text : List ℕ
+input_failed_text = codes "input failed\n"
+
+abbrev pub memory_text : List ℕ
+memory_text = codes "memory\n"
+
+-- the statuses that there are
+abbrev pub IsStatus : ℕ → Type 0
+IsStatus status = (status ≡ 0) ⊎ ((status ≡ 2) ⊎ ((status ≡ 3) ⊎ ((status ≡ 4) ⊎ ((status ≡ 5) ⊎ (status ≡ 8)))))
+
+-- The source's text was read to its end, it spells a feed, and the sink gained the plain run of that feed.
+pub record RunsPlainly (left left_now taken taken_now : Option (List ℕ)) : Type 0 where
+  pub text : List ℕ
+  pub had : Left left text
+  pub end : AtEnd left_now
+  pub feed : List FeedLine
+  pub spells : Spells feed text
+  pub written : Gains taken taken_now (plain_run empty_view feed)
+
+-- A line of the source's text is the first outside the grammar or a limit, and the sink gained the line that names it.
+pub record RefusesLine (left taken taken_now : Option (List ℕ)) : Type 0 where
+  pub text : List ℕ
+  pub had : Left left text
+  pub number : ℕ
+  pub fault : IsFirstFault text number
+  pub written : Gains taken taken_now (line_fault_text number)
+
+-- what has become of a text when its commands were executed
+abbrev pub AnswersText : Ending → List ℕ → Option (List ℕ) → Option (List ℕ) → ℕ → ℕ → Type 0
+AnswersText endings.Complete text taken taken_now faults faults_now = (feed : List FeedLine) × Spells feed text × Gains taken taken_now (plain_run empty_view feed)
+AnswersText endings.NoCommand text taken taken_now faults faults_now = ⊥
+AnswersText (endings.BadLine number) text taken taken_now faults faults_now = IsFirstFault text number × (taken_now ≡ taken)
+AnswersText endings.InputFailed text taken taken_now faults faults_now = ⊥
+AnswersText endings.OutputFailed text taken taken_now faults faults_now = Rose faults faults_now
+AnswersText endings.Memory text taken taken_now faults faults_now = ⊤
+
+-- what has become of a run that ends so, before its last line
+abbrev pub EndsRun : Ending → Option (List ℕ) → Option (List ℕ) → ℕ → ℕ → Option (List ℕ) → Option (List ℕ) → ℕ → ℕ → Type 0
+EndsRun endings.Complete left left_now reads reads_now taken taken_now puts puts_now = RunsPlainly left left_now taken taken_now
+EndsRun endings.NoCommand left left_now reads reads_now taken taken_now puts puts_now = ⊥
+EndsRun (endings.BadLine number) left left_now reads reads_now taken taken_now puts puts_now = (text : List ℕ) × Left left text × IsFirstFault text number × (taken_now ≡ taken)
+EndsRun endings.InputFailed left left_now reads reads_now taken taken_now puts puts_now = Rose reads reads_now × (taken_now ≡ taken)
+EndsRun endings.OutputFailed left left_now reads reads_now taken taken_now puts puts_now = Rose puts puts_now
+EndsRun endings.Memory left left_now reads reads_now taken taken_now puts puts_now = ⊤
+
+-- the line was written and the status is the one that goes with it, or a put failed
+abbrev pub EndsWith : ℕ → ℕ → List ℕ → Option (List ℕ) → Option (List ℕ) → ℕ → ℕ → Type 0
+EndsWith status wanted line taken taken_now faults faults_now = ((status ≡ wanted) × Gains taken taken_now line) ⊎ ((status ≡ 5) × Rose faults faults_now)
+
+-- the last line of an ending, and its status
+pub record Finishes (ending : Ending) (status : ℕ) (taken taken_now : Option (List ℕ)) (faults faults_now : ℕ) : Type 0 where
+  pub known : IsStatus status
+  pub complete : status ≡ 0 → (ending ≡ endings.Complete) × (taken_now ≡ taken)
+  pub no_command : status ≡ 2 → (ending ≡ endings.NoCommand) × Gains taken taken_now words_text
+  pub line : status ≡ 3 → (number : ℕ) × (ending ≡ endings.BadLine number) × Gains taken taken_now (line_fault_text number)
+  pub input : status ≡ 4 → (ending ≡ endings.InputFailed) × Gains taken taken_now input_failed_text
+  pub output : status ≡ 5 → (ending ≡ endings.OutputFailed) ⊎ Rose faults faults_now
+  pub later : faults ≤ faults_now

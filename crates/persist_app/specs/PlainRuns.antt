@@ -1,0 +1,74 @@
+-- Plain runs: the replies to a feed, by the plain collection alone.
+use Rattle.std.specs.Prelude.{ℕ, ◌+◌, Option, Some, None, List, [], ◌∷◌, ◌++◌, ◌&&◌, Bool, not, nat_le, position, if◌then◌else◌}
+use Rattle.std.specs.List.{flat_map}
+use Rattle.update_core.specs.declared.appends.FeedAppend.{FeedAppend}
+use Rattle.update_core.specs.declared.updates.Update.{Update}
+use Rattle.update_core.specs.Collections.{Collection, empty_collection, AppendAnswer, accepted, mismatch, heavy, append_answer, after_append, SnapshotAnswer, content, early, late, snapshot_answer}
+use Rattle.update_core.specs.Frontiers.{covers}
+use Rattle.update_core.specs.Updates.{weight_of}
+use Rattle.feed_text.specs.declared.feed_lines.FeedLine.{FeedLine}
+use Rattle.feed_text.specs.declared.feed_lines.FeedLine.TheVariants.{Append, Snapshot}
+use Rattle.feed_text.specs.declared.replies.RunReply.{RunReply}
+use Rattle.feed_text.specs.declared.replies.RunReply.TheVariants as replies
+use Rattle.feed_text.specs.Replies.{reply_text}
+
+-- what a run starts from: a collection, and the sinces of the readers that stand
+pub record View : Type 0 where
+  pub collection : Collection
+  pub readers : List ℕ
+
+abbrev pub empty_view : View
+empty_view = record { collection = empty_collection; readers = [] }
+
+-- the time is outside the append's range
+abbrev pub is_outside : FeedAppend → Update → Bool
+is_outside a u = not (nat_le a.lower u.time && covers a.upper u.time)
+
+-- what the collection answers to an append, as a reply
+abbrev pub append_text : AppendAnswer → RunReply
+append_text accepted = replies.Accepted
+append_text (mismatch upper) = replies.Mismatch upper
+append_text (heavy weight) = replies.Heavy weight
+
+abbrev pub snapshot_text : SnapshotAnswer → RunReply
+snapshot_text (content rows) = replies.Rows rows
+snapshot_text (early since) = replies.Early since
+snapshot_text (late upper) = replies.Late upper
+
+-- Where a row is outside, the first one is the reply, counted from 1; else the collection answers.
+abbrev pub ranged_reply : Option ℕ → Collection → FeedAppend → RunReply
+ranged_reply (Some row) c a = replies.Range (row + 1)
+ranged_reply None c a = append_text (append_answer c a.lower (weight_of a.rows))
+
+abbrev pub ranged_after : Option ℕ → Collection → FeedAppend → Collection
+ranged_after (Some row) c a = c
+ranged_after None c a = after_append c a.rows a.lower a.upper (weight_of a.rows)
+
+-- An append whose upper doesn't cover its lower is empty.
+abbrev pub append_reply : Collection → FeedAppend → RunReply
+append_reply c a = if covers a.upper a.lower then ranged_reply (position (is_outside a) a.rows) c a else replies.Empty
+
+abbrev pub collection_after : Collection → FeedAppend → Collection
+collection_after c a = if covers a.upper a.lower then ranged_after (position (is_outside a) a.rows) c a else c
+
+-- the reply to a command, and the view after it
+abbrev pub reply_to : View → FeedLine → RunReply
+reply_to view (Append a) = append_reply view.collection a
+reply_to view (Snapshot t) = snapshot_text (snapshot_answer view.collection t)
+
+abbrev pub view_after : View → FeedLine → View
+view_after view (Append a) = record { collection = collection_after view.collection a; readers = view.readers }
+view_after view (Snapshot t) = view
+
+-- the replies to the commands in turn
+abbrev pub plain_replies : View → List FeedLine → List RunReply
+plain_replies view [] = []
+plain_replies view (line ∷ lines) = reply_to view line ∷ plain_replies (view_after view line) lines
+
+-- the text of a plain run
+abbrev pub plain_run : View → List FeedLine → List ℕ
+plain_run view lines = flat_map reply_text (plain_replies view lines)
+
+-- the view of a collection with no readers
+abbrev pub view_of : Collection → View
+view_of c = record { collection = c; readers = [] }

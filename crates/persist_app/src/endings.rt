@@ -1,0 +1,18 @@
+// How a command ends.
+
+/// How a command ends, before its last line is written.
+#[derive(Clone, Copy, Debug)]
+pub enum Ending {
+    /// All replies are written.
+    Complete,
+    /// The words are no command.
+    NoCommand,
+    /// The first line outside the grammar or a limit, counted from 1.
+    BadLine { number: u64 },
+    /// A read failed.
+    InputFailed,
+    /// A put failed.
+    OutputFailed,
+    /// Memory was refused.
+    Memory,
+}

@@ -1,0 +1,94 @@
+// The call that `persist_main` makes.
+ghost use Rattle.std.specs.Prelude.{◌≡◌, ◌≤◌, ◌+◌, ◌⊎◌, IfOk, OnOk, map, string_bytes};
+ghost use Rattle.causes.specs.Causes.{Rose};
+ghost use Rattle.feed_text.specs.declared.limits.TheConstants.{MAX_BYTES};
+ghost use Rattle.feed_text.specs.Streams.{Gains, ReadsUpTo};
+ghost use Rattle.persist_app.specs.Endings.{EndsWith, Finishes, IsRun, IsStatus, RunsPlainly, RefusesLine, input_failed_text, words_text};
+
+use crate::clocks::Clock;
+use crate::endings::Ending;
+use crate::ends::Ended;
+use crate::runs::run;
+use crate::statuses::Status;
+use crate::words::is_run;
+use feed_text::{Sink, Source, print_line_fault, put_all};
+use std::alloc::Global;
+use store_core::Store;
+
+// Writes the last line. A put that fails makes the status that of the output.
+fn end_with<Si: Sink>(out: &mut Si, line: &[u8], status: u8) -> u8
+    ensures { EndsWith result status line.now (Si.taken out.old) (Si.taken out.new) (Si.faults out.old) (Si.faults out.new) }
+{
+    match put_all(out, line) {
+        Ok(()) => status,
+        Err(_) => Status::Output as u8,
+    }
+}
+
+// Names the line at fault, where memory for that is there.
+fn end_with_line<Si: Sink>(alloc: Global, out: &mut Si, number: u64) -> u8
+    ensures { Finishes (Ending.BadLine number) result (Si.taken out.old) (Si.taken out.new) (Si.faults out.old) (Si.faults out.new) }
+{
+    let mut line = Vec::new(alloc);
+    match print_line_fault(&mut line, number) {
+        Ok(()) => end_with(out, &line, Status::Line as u8),
+        Err(_) => end_with(out, b"memory\n", Status::Memory as u8),
+    }
+}
+
+// Writes the last line of a command that has ended so, and gives its status.
+fn finish<Si: Sink>(alloc: Global, ending: Ending, out: &mut Si) -> u8
+    ensures { Finishes ending result (Si.taken out.old) (Si.taken out.new) (Si.faults out.old) (Si.faults out.new) }
+{
+    match ending {
+        Ending::Complete => Status::Complete as u8,
+        Ending::NoCommand => end_with(out, b"words\n", Status::Words as u8),
+        Ending::BadLine { number } => end_with_line(alloc, out, number),
+        Ending::InputFailed => end_with(out, b"input failed\n", Status::Input as u8),
+        Ending::OutputFailed => Status::Output as u8,
+        Ending::Memory => end_with(out, b"memory\n", Status::Memory as u8),
+    }
+}
+
+/// Does what the words say, over a source and a sink. The one command is `run`: it reads a feed and writes the replies
+/// to it. It makes no store call, and gives the store back as it was. See docs/DEFINITIONS.md, "Plain runs" and
+/// "Statuses".
+pub fn persist_plain<So: Source, Si: Sink, S: Store, K: Clock>(
+    alloc: Global,
+    words: &Vec<String>,
+    src: &mut So,
+    out: &mut Si,
+    store: S,
+    clock: &mut K,
+) -> Ended<S>
+    ensures statuses { IsStatus result.status }
+    // 0: the text was read to its end, and the plain run of the feed that it spells is written, and nothing else.
+    ensures complete { result.status ≡ 0 → IsRun (map string_bytes words.now.items)
+        × RunsPlainly (So.left src.old) (So.left src.new) (Si.taken out.old) (Si.taken out.new) }
+    // 2: the words are no command.
+    ensures no_command { result.status ≡ 2 → (IsRun (map string_bytes words.now.items) → ⊥)
+        × Gains (Si.taken out.old) (Si.taken out.new) words_text }
+    // 3: a line is at fault, and nothing was executed.
+    ensures line { result.status ≡ 3 → IsRun (map string_bytes words.now.items)
+        × RefusesLine (So.left src.old) (Si.taken out.old) (Si.taken out.new) }
+    // 4: a read failed.
+    ensures input { result.status ≡ 4 → IsRun (map string_bytes words.now.items)
+        × Rose (So.faults src.old) (So.faults src.new)
+        × Gains (Si.taken out.old) (Si.taken out.new) input_failed_text }
+    // 5: a put failed.
+    ensures output { result.status ≡ 5 → Rose (Si.faults out.old) (Si.faults out.new) }
+    // At most one byte more than a feed may have is read, and each read but the last takes one.
+    ensures reading { ReadsUpTo (MAX_BYTES + 1) (So.left src.old) (So.left src.new) (So.reads src.old) (So.reads src.new) }
+    ensures store { result.store ≡ store }
+{
+    let _moment = clock.now();
+    let ending = if is_run(words) {
+        run(alloc, src, out)
+    } else {
+        Ending::NoCommand
+    };
+    Ended {
+        status: finish(alloc, ending, out),
+        store,
+    }
+}

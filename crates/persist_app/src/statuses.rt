@@ -1,0 +1,18 @@
+// The statuses of a program's call.
+
+/// What a program's call ends with. See docs/DEFINITIONS.md, "Statuses".
+#[derive(Clone, Copy, Debug)]
+pub enum Status {
+    /// All replies are written.
+    Complete = 0,
+    /// The words are no command.
+    Words = 2,
+    /// A line is outside the grammar or a limit.
+    Line = 3,
+    /// A read failed.
+    Input = 4,
+    /// A put failed.
+    Output = 5,
+    /// Memory was refused.
+    Memory = 8,
+}
