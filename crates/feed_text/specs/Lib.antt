@@ -2,3 +2,4 @@ pub mod Streams
 pub mod Lines
 pub mod Grammar
 pub mod Replies
+pub mod Reading

@@ -1,11 +1,15 @@
 //! The texts that programs read and write: streams of bytes, the feed of `run` line by line, and its replies.
 #![tactic(auto)]
 
+mod command_lines;
 mod feed_line_lists;
 mod feed_lines;
 mod feeds;
 mod limits;
+mod line_cuts;
+mod numbers;
 mod replies;
+mod row_lines;
 
 pub use feed_line_lists::FeedLines;
 pub use feed_lines::FeedLine;
