@@ -3,3 +3,4 @@ pub mod Lines
 pub mod Grammar
 pub mod Replies
 pub mod Reading
+pub mod Words

@@ -14,7 +14,7 @@ pub(crate) fn append_head(alloc: Global, line: &[u8]) -> Option<FeedAppend>
         (λ a. IsAppend a × (a.rows ≡ []) × (line.now ≡ append_line a.lower a.upper)) }
 {
     let (word, rest) = cut_at(b' ', line)?;
-    if word != b"append" {
+    if word != b"append".as_slice() {
         return None;
     }
     let (lower, upper) = cut_at(b' ', rest)?;
@@ -34,7 +34,7 @@ pub(crate) fn snapshot_time(line: &[u8]) -> Option<u64>
         (λ t. (t < 2 ^ 64) × (line.now ≡ snapshot_line t)) }
 {
     let (word, time) = cut_at(b' ', line)?;
-    if word != b"snapshot" {
+    if word != b"snapshot".as_slice() {
         return None;
     }
     number(time)

@@ -1,10 +1,11 @@
 // The words of a line that are numbers, each in its one spelling.
-ghost use Rattle.std.specs.Prelude.{◌≡◌, ◌≢◌, ℕ, ℤ, ◌∷◌, slice_index, ◌+◌, ◌*◌, ◌^◌, ◌<◌, ◌≤◌, Option, IfSome, IfNone, MatchOption, FitsSigned};
+ghost use Rattle.std.specs.Prelude.{◌≡◌, ◌≢◌, ℕ, ℤ, ◌∷◌, slice_index, ◌+◌, ◌*◌, ◌^◌, ◌<◌, ◌≤◌, Option, IsTrue, ◌↔◌, IfSome, IfNone, MatchOption, FitsSigned};
 ghost use Rattle.std.specs.Char.{digit_value};
 ghost use Rattle.std.specs.Fmt.{decimal, signed_decimal};
 ghost use Rattle.std.specs.Int.{w64};
 ghost use Rattle.std.specs.Str.Parse.{AllDigits, digits_value};
 ghost use Rattle.feed_text.specs.Grammar.{frontier_text};
+ghost use Rattle.feed_text.specs.Words.{IsPlain};
 
 use update_core::Frontier;
 
@@ -21,7 +22,7 @@ fn digit(byte: u8) -> Option<u64>
 // One more digit at the end of a number, where it still fits.
 fn with_digit(value: u64, digit: u64) -> Option<u64>
     requires { digit < 10 }
-    ensures { MatchOption result (2 ^ 64 ≤ value * 10 + digit) (λ n. n ≡ value * 10 + digit) }
+    ensures { MatchOption result (2 ^ 64 ≤ value * 10 + digit) (λ n. (n < 2 ^ 64) × (n ≡ value * 10 + digit)) }
 {
     if value > (u64::MAX - digit) / 10 {
         return None;
@@ -42,16 +43,23 @@ fn digits(word: &[u8]) -> Option<u64>
     Some(value)
 }
 
+// Whether there is something, and no zero before other digits.
+fn is_plain(word: &[u8]) -> bool
+    ensures { IsTrue result ↔ IsPlain word.now }
+{
+    match word.len() {
+        0 => false,
+        1 => true,
+        _ => word[0] != b'0',
+    }
+}
+
 // The number that a word writes.
 pub(crate) fn number(word: &[u8]) -> Option<u64>
     ensures some { IfSome result (λ n. (n < 2 ^ 64) × (word.now ≡ decimal n)) }
     ensures none { IfNone result ((n : ℕ) → n < 2 ^ 64 → word.now ≡ decimal n → ⊥) }
 {
-    let len = word.len();
-    if len == 0 {
-        return None;
-    }
-    if len > 1 && word[0] == b'0' {
+    if !is_plain(word) {
         return None;
     }
     digits(word)
@@ -63,7 +71,10 @@ fn negative(word: &[u8]) -> Option<i64>
     ensures none { IfNone result ((z : ℤ) → FitsSigned w64 z → 45 ∷ word.now ≡ signed_decimal z → ⊥) }
 {
     let size = number(word)?;
-    if size == 0 || size > 1 << 63 {
+    if size == 0 {
+        return None;
+    }
+    if size > 1 << 63 {
         return None;
     }
     Some(-1 - (size - 1) as i64)
@@ -97,7 +108,7 @@ pub(crate) fn frontier(word: &[u8]) -> Option<Frontier>
     ensures some { IfSome result (λ f. IfSome f (λ t. t < 2 ^ 64) × (word.now ≡ frontier_text f)) }
     ensures none { IfNone result ((f : Option ℕ) → IfSome f (λ t. t < 2 ^ 64) → word.now ≡ frontier_text f → ⊥) }
 {
-    if word == b"closed" {
+    if word == b"closed".as_slice() {
         return Some(Frontier::closed());
     }
     let time = number(word)?;
