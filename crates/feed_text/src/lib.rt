@@ -5,6 +5,7 @@ mod command_lines;
 mod feed_line_lists;
 mod feed_lines;
 mod feeds;
+pub mod laws;
 mod limits;
 mod line_cuts;
 mod numbers;

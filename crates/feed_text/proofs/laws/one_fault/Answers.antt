@@ -1,0 +1,5 @@
+use Rattle.feed_text.proofs.Faults as faults
+use Rattle.feed_text.proofs.laws.one_fault.Goals as goal
+
+pub returns : goal.returns
+returns c = faults.one_fault
