@@ -137,16 +137,23 @@ other_word word told name r says is same = λ e.
 pub row_here : (line datum bytes : List ℕ) (time : ℕ) (diff stored : ℤ) → time < 2 ^ 64 → FitsSigned w64 diff → line ≡ decimal time ++ 32 ∷ (signed_decimal diff ++ 32 ∷ bytes)
     → datum ≡ bytes → 1 ≤ length bytes → length bytes ≤ 255 → Lacks 10 line → stored ≡ diff
     → let u : Update = record { datum = datum; time = time; diff = stored } in IsRow u × (line ≡ row_line u)
-row_here line datum bytes time diff stored small fits is same some few lacks back =
-    (record {
-      time = small;
-      diff = subst (λ (z : ℤ). FitsSigned w64 z) (sym back) fits;
-      some = omega (arith, ap length same);
-      few = omega (arith, ap length same);
-      one_line = subst (λ (l : List ℕ). Lacks 10 l) (sym same) (datum_one_line line bytes time diff is lacks)
-    },
-    is ∙ ap (λ z. decimal time ++ 32 ∷ (signed_decimal z ++ 32 ∷ bytes)) (sym back) ∙ ap (λ l. decimal time ++ 32 ∷ (signed_decimal stored ++ 32 ∷ l)) (sym same))
+row_here line datum bytes time diff stored small fits is same some few lacks back = (
+  record {
+    time = small;
+    diff = subst (λ (z : ℤ). FitsSigned w64 z) (sym back) fits;
+    some = omega (arith, ap length same);
+    few = omega (arith, ap length same);
+    one_line = subst (λ (l : List ℕ). Lacks 10 l) (sym same) (datum_one_line line bytes time diff is lacks);
+  },
+  is ∙ ap (λ z. decimal time ++ 32 ∷ (signed_decimal z ++ 32 ∷ bytes)) (sym back) ∙ ap (λ l. decimal time ++ 32 ∷ (signed_decimal stored ++ 32 ∷ l)) (sym same),
+)
 
 -- where a datum is refused
 pub refused_size : (fault : DatumFault) (n m : ℕ) → fault ≡ DatumSize n → ((fault ≡ Memory) ⊎ ((fault ≡ DatumSize m) × ((m ≡ 0) ⊎ (255 < m)))) → (m ≡ 0) ⊎ (255 < m)
 refused_size fault n m is h = ⊎_elim (λ (e : fault ≡ Memory). cc) (λ (p : (fault ≡ DatumSize m) × ((m ≡ 0) ⊎ (255 < m))). p.1) h
+
+pub same_word : (word told name : List ℕ) (r : Bool) → r ≡ pointwise eqb word told → r ≡ true → told ≡ name → word ≡ name
+same_word word told name r says is same = (slice_eq-Decides Decides-eqb word told r says).0 is ∙ same
+
+pub different_word : (word told name : List ℕ) (r : Bool) → r ≡ pointwise eqb word told → r ≡ false → told ≡ name → word ≢ name
+different_word word told name r says is same = λ e. not_from_Decides r (slice_eq-Decides Decides-eqb word told r says) is (e ∙ sym same)

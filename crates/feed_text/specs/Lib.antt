@@ -4,3 +4,4 @@ pub mod Grammar
 pub mod Replies
 pub mod Reading
 pub mod Words
+pub mod Faults

@@ -4,11 +4,14 @@
 mod command_lines;
 mod feed_line_lists;
 mod feed_lines;
+mod feed_readers;
 mod feeds;
 pub mod laws;
 mod limits;
 mod line_cuts;
+mod line_faults;
 mod numbers;
+mod parsing;
 mod replies;
 mod row_lines;
 
@@ -16,4 +19,6 @@ pub use feed_line_lists::FeedLines;
 pub use feed_lines::FeedLine;
 pub use feeds::Feed;
 pub use limits::{MAX_BYTES, MAX_COMMANDS, MAX_ROWS};
+pub use line_faults::LineFault;
+pub use parsing::parse_feed;
 pub use replies::RunReply;

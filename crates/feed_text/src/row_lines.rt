@@ -23,9 +23,9 @@ struct RowWords<'a> {
 fn row_words(line: &[u8]) -> Option<RowWords<'_>>
     ensures { MatchOption result
         ((time : ℕ) (diff : ℤ) (datum : List ℕ) → time < 2 ^ 64 → FitsSigned w64 diff
-            → line.now ≡ decimal time ++ 32 ∷ (signed_decimal diff ++ 32 ∷ datum) → ⊥)
+        → line.now ≡ decimal time ++ 32 ∷ (signed_decimal diff ++ 32 ∷ datum) → ⊥)
         (λ row. (row.time < 2 ^ 64) × FitsSigned w64 row.diff
-            × (line.now ≡ decimal row.time ++ 32 ∷ (signed_decimal row.diff ++ 32 ∷ row.datum.now))) }
+        × (line.now ≡ decimal row.time ++ 32 ∷ (signed_decimal row.diff ++ 32 ∷ row.datum.now))) }
 {
     let (time, rest) = cut_at(b' ', line)?;
     let time = number(time)?;
