@@ -4,3 +4,5 @@ pub mod Lines
 pub mod Grammar
 pub mod Replies
 pub mod Reading
+pub mod Words
+pub mod Faults

@@ -2,16 +2,23 @@
 #![tactic(auto)]
 
 mod adapters;
+mod command_lines;
 mod feed_line_lists;
 mod feed_lines;
+mod feed_readers;
 mod feeds;
 pub mod laws;
 mod limits;
+mod line_cuts;
+mod line_faults;
 mod mem_sinks;
 mod mem_sources;
+mod numbers;
+mod parsing;
 mod read_faults;
 mod reading;
 mod replies;
+mod row_lines;
 mod sinks;
 mod sources;
 
@@ -20,8 +27,10 @@ pub use feed_line_lists::FeedLines;
 pub use feed_lines::FeedLine;
 pub use feeds::Feed;
 pub use limits::{MAX_BYTES, MAX_COMMANDS, MAX_ROWS};
+pub use line_faults::LineFault;
 pub use mem_sinks::MemSink;
 pub use mem_sources::MemSource;
+pub use parsing::parse_feed;
 pub use read_faults::ReadFault;
 pub use reading::read_up_to;
 pub use replies::RunReply;

@@ -1,0 +1,159 @@
+-- The words of a row, and of the lines that begin a command: a line is cut into them in one way.
+use Rattle.std.proofs.Common.{◌≡◌, ◌≢◌, ℕ, ℤ, ◌+◌, ◌^◌, ◌<◌, ◌≤◌, ◌⊎◌, inl, inr, ⊎_elim, Bool, true, false, cond, eqb, ne_eqb, Option, Some, None, IfSome, List, [], ◌∷◌, ◌++◌, length, refl, sym, ap, subst, ◌∙◌, arith}
+use Rattle.std.specs.Int.{w64}
+use Rattle.std.specs.Prelude.{FitsSigned, codes}
+use Rattle.std.specs.Fmt.{decimal, signed_decimal}
+use Rattle.std.specs.List.{AllByRecursion}
+use Rattle.update_core.specs.declared.updates.Update.{Update}
+use Rattle.feed_text.specs.Grammar.{append_line, frontier_text, row_line, snapshot_line, IsRow}
+use Rattle.feed_text.proofs.Cuts.{Lacks, one_cut_front, one_cut_rest, no_cut, lacks_end}
+use Rattle.feed_text.proofs.Spelled.{NoNumber, decimal_lacks, signed_lacks}
+use Rattle.std.proofs.Common.{not}
+use Rattle.std.proofs.lemmas.Bool.Decides.{Decides-eqb, not_from_Decides}
+use Rattle.std.proofs.lemmas.Slice.Eq.{slice_eq-Decides}
+use Rattle.update_core.specs.declared.data.DatumFault.{DatumFault}
+use Rattle.update_core.specs.declared.data.DatumFault.TheVariants.{Memory, DatumSize}
+use lib.Pointwise.{pointwise}
+use borrow.Author.Tests.{eqb-false}
+
+-- a line that isn't a row, whatever its datum is
+abbrev pub NoWords : List ℕ → Type 0
+NoWords line = (time : ℕ) (diff : ℤ) (datum : List ℕ) → time < 2 ^ 64 → FitsSigned w64 diff → line ≡ decimal time ++ 32 ∷ (signed_decimal diff ++ 32 ∷ datum) → ⊥
+
+pub uncut : (line : List ℕ) → Lacks 32 line → NoWords line
+uncut line lacks = λ time diff datum small fits is. no_cut 32 line (decimal time) (signed_decimal diff ++ 32 ∷ datum) lacks is
+
+pub bad_time : (line word rest : List ℕ) → line ≡ word ++ 32 ∷ rest → Lacks 32 word → NoNumber word → NoWords line
+bad_time line word rest cut lacks bad = λ time diff datum small fits is.
+    bad time small (one_cut_front 32 word (decimal time) rest (signed_decimal diff ++ 32 ∷ datum) lacks (decimal_lacks time small) (sym cut ∙ is))
+
+pub rest_uncut : (line word rest : List ℕ) → line ≡ word ++ 32 ∷ rest → Lacks 32 word → Lacks 32 rest → NoWords line
+rest_uncut line word rest cut lacks bare = λ time diff datum small fits is.
+    no_cut 32 rest (signed_decimal diff) datum bare (one_cut_rest 32 word (decimal time) rest (signed_decimal diff ++ 32 ∷ datum) lacks (decimal_lacks time small) (sym cut ∙ is))
+
+pub bad_difference : (line word rest second datum : List ℕ) → line ≡ word ++ 32 ∷ rest → Lacks 32 word → rest ≡ second ++ 32 ∷ datum → Lacks 32 second
+    → ((z : ℤ) → FitsSigned w64 z → second ≡ signed_decimal z → ⊥) → NoWords line
+bad_difference line word rest second datum cut lacks cut_again lacks_again bad = λ time diff other small fits is.
+    let tail = one_cut_rest 32 word (decimal time) rest (signed_decimal diff ++ 32 ∷ other) lacks (decimal_lacks time small) (sym cut ∙ is) in
+    bad diff fits (one_cut_front 32 second (signed_decimal diff) datum other lacks_again (signed_lacks diff fits) (sym cut_again ∙ tail))
+
+-- the words of a row are those of its line
+same_datum : (time other : ℕ) (diff change : ℤ) (datum bytes : List ℕ) → time < 2 ^ 64 → other < 2 ^ 64 → FitsSigned w64 diff → FitsSigned w64 change
+    → decimal time ++ 32 ∷ (signed_decimal diff ++ 32 ∷ datum) ≡ decimal other ++ 32 ∷ (signed_decimal change ++ 32 ∷ bytes) → datum ≡ bytes
+same_datum time other diff change datum bytes p q f g is =
+    let tail = one_cut_rest 32 (decimal time) (decimal other) (signed_decimal diff ++ 32 ∷ datum) (signed_decimal change ++ 32 ∷ bytes) (decimal_lacks time p) (decimal_lacks other q) is in
+    one_cut_rest 32 (signed_decimal diff) (signed_decimal change) datum bytes (signed_lacks diff f) (signed_lacks change g) tail
+
+pub bad_size : (line datum : List ℕ) (time : ℕ) (diff : ℤ) → time < 2 ^ 64 → FitsSigned w64 diff → line ≡ decimal time ++ 32 ∷ (signed_decimal diff ++ 32 ∷ datum)
+    → ((length datum ≡ 0) ⊎ (255 < length datum)) → (u : Update) → IsRow u → line ≡ row_line u → ⊥
+bad_size line datum time diff small fits words size u row is =
+    let same = same_datum time u.time diff u.diff datum u.datum small row.time fits row.diff (sym words ∙ is) in
+    let sizes = ap length same in
+    let some = row.some in
+    let few = row.few in
+    ⊎_elim (λ (e : length datum ≡ 0). omega (arith, e, sizes, some)) (λ (l : 255 < length datum). omega (arith, l, sizes, few)) size
+
+pub no_words : (line : List ℕ) → NoWords line → (u : Update) → IsRow u → line ≡ row_line u → ⊥
+no_words line none u row is = none u.time u.diff u.datum row.time row.diff is
+
+pub datum_one_line : (line datum : List ℕ) (time : ℕ) (diff : ℤ) → line ≡ decimal time ++ 32 ∷ (signed_decimal diff ++ 32 ∷ datum) → Lacks 10 line → Lacks 10 datum
+datum_one_line line datum time diff is lacks =
+    (lacks_end 10 (signed_decimal diff) (32 ∷ datum) (lacks_end 10 (decimal time) (32 ∷ (signed_decimal diff ++ 32 ∷ datum)) (subst (λ (l : List ℕ). Lacks 10 l) is lacks)).1).1
+
+-- the first words of commands
+without : ℕ → List ℕ → Bool
+without byte [] = true
+without byte (b ∷ bs) = cond (eqb b byte) false (without byte bs)
+
+lacks_next : (byte b : ℕ) (bs : List ℕ) (t : Bool) → eqb b byte ≡ t → cond t false (without byte bs) ≡ true → (b ≢ byte) × (without byte bs ≡ true)
+lacks_next byte b bs true is h = cc
+lacks_next byte b bs false is h = (eqb-false b byte is, h)
+
+lacks_test : (byte : ℕ) (text : List ℕ) → without byte text ≡ true → Lacks byte text
+unfolding without
+lacks_test byte [] h = tt
+lacks_test byte (b ∷ bs) h =
+    let next = lacks_next byte b bs (eqb b byte) refl h in
+    (next.0, lacks_test byte bs next.1)
+
+append_lacks : Lacks 32 (codes "append")
+unfolding without
+append_lacks = lacks_test 32 (codes "append") refl
+
+snapshot_lacks : Lacks 32 (codes "snapshot")
+unfolding without
+snapshot_lacks = lacks_test 32 (codes "snapshot") refl
+
+-- a line that begins no append
+abbrev pub NoHead : List ℕ → Type 0
+NoHead line = (l : ℕ) (u : Option ℕ) → l < 2 ^ 64 → IfSome u (λ t. t < 2 ^ 64) → line ≡ append_line l u → ⊥
+
+head_rest : (line word rest : List ℕ) (l : ℕ) (u : Option ℕ) → line ≡ word ++ 32 ∷ rest → Lacks 32 word → line ≡ append_line l u → rest ≡ decimal l ++ 32 ∷ frontier_text u
+head_rest line word rest l u cut lacks is = one_cut_rest 32 word (codes "append") rest (decimal l ++ 32 ∷ frontier_text u) lacks append_lacks (sym cut ∙ is)
+
+pub head_uncut : (line : List ℕ) → Lacks 32 line → NoHead line
+head_uncut line lacks = λ l u low small is. no_cut 32 line (codes "append") (decimal l ++ 32 ∷ frontier_text u) lacks is
+
+pub other_head : (line word rest : List ℕ) → line ≡ word ++ 32 ∷ rest → Lacks 32 word → word ≢ codes "append" → NoHead line
+other_head line word rest cut lacks apart = λ l u low small is.
+    apart (one_cut_front 32 word (codes "append") rest (decimal l ++ 32 ∷ frontier_text u) lacks append_lacks (sym cut ∙ is))
+
+pub head_rest_uncut : (line word rest : List ℕ) → line ≡ word ++ 32 ∷ rest → Lacks 32 word → Lacks 32 rest → NoHead line
+head_rest_uncut line word rest cut lacks bare = λ l u low small is.
+    no_cut 32 rest (decimal l) (frontier_text u) bare (head_rest line word rest l u cut lacks is)
+
+pub bad_lower : (line word rest lower upper : List ℕ) → line ≡ word ++ 32 ∷ rest → Lacks 32 word → rest ≡ lower ++ 32 ∷ upper → Lacks 32 lower → NoNumber lower → NoHead line
+bad_lower line word rest lower upper cut lacks cut_again lacks_again bad = λ l u low small is.
+    bad l low (one_cut_front 32 lower (decimal l) upper (frontier_text u) lacks_again (decimal_lacks l low) (sym cut_again ∙ head_rest line word rest l u cut lacks is))
+
+pub bad_upper : (line word rest lower upper : List ℕ) → line ≡ word ++ 32 ∷ rest → Lacks 32 word → rest ≡ lower ++ 32 ∷ upper → Lacks 32 lower
+    → ((f : Option ℕ) → IfSome f (λ t. t < 2 ^ 64) → upper ≡ frontier_text f → ⊥) → NoHead line
+bad_upper line word rest lower upper cut lacks cut_again lacks_again bad = λ l u low small is.
+    bad u small (one_cut_rest 32 lower (decimal l) upper (frontier_text u) lacks_again (decimal_lacks l low) (sym cut_again ∙ head_rest line word rest l u cut lacks is))
+
+-- a line that asks for no content
+abbrev pub NoSnapshot : List ℕ → Type 0
+NoSnapshot line = (t : ℕ) → t < 2 ^ 64 → line ≡ snapshot_line t → ⊥
+
+pub snapshot_uncut : (line : List ℕ) → Lacks 32 line → NoSnapshot line
+snapshot_uncut line lacks = λ t small is. no_cut 32 line (codes "snapshot") (decimal t) lacks is
+
+pub other_snapshot : (line word rest : List ℕ) → line ≡ word ++ 32 ∷ rest → Lacks 32 word → word ≢ codes "snapshot" → NoSnapshot line
+other_snapshot line word rest cut lacks apart = λ t small is. apart (one_cut_front 32 word (codes "snapshot") rest (decimal t) lacks snapshot_lacks (sym cut ∙ is))
+
+pub bad_snapshot_time : (line word rest : List ℕ) → line ≡ word ++ 32 ∷ rest → Lacks 32 word → NoNumber rest → NoSnapshot line
+bad_snapshot_time line word rest cut lacks bad = λ t small is. bad t small (one_cut_rest 32 word (codes "snapshot") rest (decimal t) lacks snapshot_lacks (sym cut ∙ is))
+
+not_true : (b : Bool) → not b ≡ true → b ≡ false
+not_true true h = cc
+not_true false h = refl
+
+pub other_word : (word told name : List ℕ) (r : Bool) → r ≡ not (pointwise eqb word told) → r ≡ true → told ≡ name → word ≢ name
+other_word word told name r says is same = λ e.
+    let equal = pointwise eqb word told in
+    not_from_Decides equal (slice_eq-Decides Decides-eqb word told equal refl) (not_true equal (sym says ∙ is)) (e ∙ sym same)
+
+-- a row with the words of its line
+pub row_here : (line datum bytes : List ℕ) (time : ℕ) (diff stored : ℤ) → time < 2 ^ 64 → FitsSigned w64 diff → line ≡ decimal time ++ 32 ∷ (signed_decimal diff ++ 32 ∷ bytes)
+    → datum ≡ bytes → 1 ≤ length bytes → length bytes ≤ 255 → Lacks 10 line → stored ≡ diff
+    → let u : Update = record { datum = datum; time = time; diff = stored } in IsRow u × (line ≡ row_line u)
+row_here line datum bytes time diff stored small fits is same some few lacks back = (
+  record {
+    time = small;
+    diff = subst (λ (z : ℤ). FitsSigned w64 z) (sym back) fits;
+    some = omega (arith, ap length same);
+    few = omega (arith, ap length same);
+    one_line = subst (λ (l : List ℕ). Lacks 10 l) (sym same) (datum_one_line line bytes time diff is lacks);
+  },
+  is ∙ ap (λ z. decimal time ++ 32 ∷ (signed_decimal z ++ 32 ∷ bytes)) (sym back) ∙ ap (λ l. decimal time ++ 32 ∷ (signed_decimal stored ++ 32 ∷ l)) (sym same),
+)
+
+-- where a datum is refused
+pub refused_size : (fault : DatumFault) (n m : ℕ) → fault ≡ DatumSize n → ((fault ≡ Memory) ⊎ ((fault ≡ DatumSize m) × ((m ≡ 0) ⊎ (255 < m)))) → (m ≡ 0) ⊎ (255 < m)
+refused_size fault n m is h = ⊎_elim (λ (e : fault ≡ Memory). cc) (λ (p : (fault ≡ DatumSize m) × ((m ≡ 0) ⊎ (255 < m))). p.1) h
+
+pub same_word : (word told name : List ℕ) (r : Bool) → r ≡ pointwise eqb word told → r ≡ true → told ≡ name → word ≡ name
+same_word word told name r says is same = (slice_eq-Decides Decides-eqb word told r says).0 is ∙ same
+
+pub different_word : (word told name : List ℕ) (r : Bool) → r ≡ pointwise eqb word told → r ≡ false → told ≡ name → word ≢ name
+different_word word told name r says is same = λ e. not_from_Decides r (slice_eq-Decides Decides-eqb word told r says) is (e ∙ sym same)
