@@ -12,6 +12,7 @@ mod line_cuts;
 mod line_faults;
 mod numbers;
 mod parsing;
+mod printing;
 mod replies;
 mod row_lines;
 
@@ -21,4 +22,5 @@ pub use feeds::Feed;
 pub use limits::{MAX_BYTES, MAX_COMMANDS, MAX_ROWS};
 pub use line_faults::LineFault;
 pub use parsing::parse_feed;
+pub use printing::{print_line_fault, print_reply};
 pub use replies::RunReply;
