@@ -1,5 +1,5 @@
 -- The text of a reply.
-use Rattle.std.specs.Prelude.{ℕ, List, [], ◌∷◌, ◌++◌, codes}
+use Rattle.std.specs.Prelude.{◌≡◌, ℕ, List, [], ◌∷◌, ◌++◌, codes}
 use Rattle.std.specs.Fmt.{decimal, signed_decimal}
 use Rattle.std.specs.List.{flat_map}
 use Rattle.update_core.specs.declared.rows.Row.{Row}
@@ -22,6 +22,11 @@ reply_text (Rows rows) = flat_map row_text rows ++ codes ".\n"
 reply_text (Early since) = codes "early " ++ (decimal since ++ 10 ∷ [])
 reply_text (Late upper) = codes "late " ++ (frontier_text upper ++ 10 ∷ [])
 
--- `line N`, which names the first line at fault
+-- the line that tells where a text stops being a feed
 abbrev pub line_fault_text : ℕ → List ℕ
-line_fault_text number = codes "line " ++ (decimal number ++ 10 ∷ [])
+line_fault_text n = codes "line " ++ (decimal n ++ 10 ∷ [])
+
+-- what was there, and maybe more after it
+pub record Extends (before now : List ℕ) : Type 0 where
+  pub more : List ℕ
+  pub is : now ≡ before ++ more
