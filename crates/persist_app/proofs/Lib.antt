@@ -1,1 +1,2 @@
 pub mod TextRead
+pub mod RunLaws

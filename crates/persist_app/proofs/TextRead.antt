@@ -5,7 +5,11 @@ use Rattle.std.proofs.lemmas.Bool.{cases_lt}
 use Rattle.std.proofs.lemmas.List.{append-nil, take_at}
 use Rattle.feed_text.specs.declared.limits.TheConstants.{MAX_BYTES}
 use Rattle.feed_text.specs.Grammar.{IsFirstFault}
-use Rattle.feed_text.specs.Streams.{Left, Takes, AtEnd, TakesAll}
+use Rattle.feed_text.specs.Replies.{line_fault_text}
+use Rattle.feed_text.specs.Streams.{Gains, Left, Takes, AtEnd, TakesAll}
+use Rattle.persist_app.specs.declared.endings.Ending.{Ending}
+use Rattle.persist_app.specs.declared.endings.Ending.TheVariants as endings
+use Rattle.persist_app.specs.Endings.{AnswersText, EndsRun, IsRun, Performs, RefusesLine}
 use Rattle.feed_text.proofs.Faults.{fault_in_front}
 
 -- what was read to its end is the whole text
@@ -21,6 +25,39 @@ pub fault_had : (left now : Option (List ℕ)) (text : List ℕ) (number : ℕ) 
 fault_had None now text number took fault = (text, tt, fault)
 fault_had (Some whole) now text number took fault =
     ⊎_elim (λ (short : length text < MAX_BYTES + 1). (text, all_had (MAX_BYTES + 1) (Some whole) now text took short, fault)) (λ (long : MAX_BYTES + 1 ≤ length text).
-        let full : length text ≡ MAX_BYTES + 1 = omega (arith, took.few) in
-        let front : take (MAX_BYTES + 1) whole ≡ text = ap (take (MAX_BYTES + 1)) took.taken.1 ∙ take_at text took.taken.0 (MAX_BYTES + 1) full in
-        (whole, refl, fault_in_front whole number (subst (λ t. IsFirstFault t number) (sym front) fault))) (cases_lt (length text) (MAX_BYTES + 1))
+    let full : length text ≡ MAX_BYTES + 1 = omega (arith, took.few) in
+    let front : take (MAX_BYTES + 1) whole ≡ text = ap (take (MAX_BYTES + 1)) took.taken.1 ∙ take_at text took.taken.0 (MAX_BYTES + 1) full in
+    (whole, refl, fault_in_front whole number (subst (λ t. IsFirstFault t number) (sym front) fault))) (cases_lt (length text) (MAX_BYTES + 1))
+
+-- what a run comes to is told by what has become of the text that was read
+pub run_from_text : (ending : Ending) (left now : Option (List ℕ)) (text : List ℕ) (taken taken_now : Option (List ℕ)) (reads reads_now puts puts_now : ℕ)
+  → TakesAll (MAX_BYTES + 1) left now text → AnswersText ending text taken taken_now puts puts_now → EndsRun ending left now reads reads_now taken taken_now puts puts_now
+run_from_text endings.Complete left now text taken taken_now reads reads_now puts puts_now took answered =
+    let short : length text < MAX_BYTES + 1 = omega (arith, answered.1.few) in
+    record {
+      text = text;
+      had = all_had (MAX_BYTES + 1) left now text took short;
+      end = took.end short;
+      feed = answered.0;
+      spells = answered.1;
+      written = answered.2;
+    }
+run_from_text endings.NoCommand left now text taken taken_now reads reads_now puts puts_now took answered = absurd answered
+run_from_text (endings.BadLine number) left now text taken taken_now reads reads_now puts puts_now took answered =
+    let whole = fault_had left now text number took answered.0 in (whole.0, whole.1, whole.2, answered.1)
+run_from_text endings.InputFailed left now text taken taken_now reads reads_now puts puts_now took answered = absurd answered
+run_from_text endings.OutputFailed left now text taken taken_now reads reads_now puts puts_now took answered = answered
+run_from_text endings.Memory left now text taken taken_now reads reads_now puts puts_now took answered = tt
+
+-- a command that ends at a line, with the line written
+pub line_refused : (words : List (List ℕ)) (ending : Ending) (number : ℕ) (left now : Option (List ℕ)) (reads reads_now : ℕ) (taken between taken_now : Option (List ℕ)) (puts puts_now : ℕ)
+  → Performs words ending left now reads reads_now taken between puts puts_now → ending ≡ endings.BadLine number → Gains between taken_now (line_fault_text number) → IsRun words × RefusesLine left taken taken_now
+line_refused words ending number left now reads reads_now taken between taken_now puts puts_now performed is written =
+    let stopped = subst (λ e. Performs words e left now reads reads_now taken between puts puts_now) is performed in
+    (stopped.0, record {
+      text = stopped.1;
+      had = stopped.2;
+      number = number;
+      fault = stopped.3;
+      written = subst (λ t. Gains t taken_now (line_fault_text number)) stopped.4 written;
+    })

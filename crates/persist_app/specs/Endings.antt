@@ -75,3 +75,13 @@ pub record Finishes (ending : Ending) (status : ℕ) (taken taken_now : Option (
   pub input : status ≡ 4 → (ending ≡ endings.InputFailed) × Gains taken taken_now input_failed_text
   pub output : status ≡ 5 → (ending ≡ endings.OutputFailed) ⊎ Rose faults faults_now
   pub later : faults ≤ faults_now
+
+-- what has become of a command with these words that ends so, before its last line
+abbrev pub Performs : List (List ℕ) → Ending → Option (List ℕ) → Option (List ℕ) → ℕ → ℕ → Option (List ℕ) → Option (List ℕ) → ℕ → ℕ → Type 0
+Performs words endings.Complete left left_now reads reads_now taken taken_now puts puts_now = IsRun words × RunsPlainly left left_now taken taken_now
+Performs words endings.NoCommand left left_now reads reads_now taken taken_now puts puts_now = (IsRun words → ⊥) × (taken_now ≡ taken)
+Performs words (endings.BadLine number) left left_now reads reads_now taken taken_now puts puts_now =
+  IsRun words × (text : List ℕ) × Left left text × IsFirstFault text number × (taken_now ≡ taken)
+Performs words endings.InputFailed left left_now reads reads_now taken taken_now puts puts_now = IsRun words × Rose reads reads_now × (taken_now ≡ taken)
+Performs words endings.OutputFailed left left_now reads reads_now taken taken_now puts puts_now = IsRun words × Rose puts puts_now
+Performs words endings.Memory left left_now reads reads_now taken taken_now puts puts_now = IsRun words

@@ -3,9 +3,15 @@
 
 mod clocks;
 mod collections;
+mod endings;
 mod ends;
+mod plain;
+mod run_faults;
+mod runs;
+mod statuses;
 mod words;
 
 pub use clocks::{Clock, FixedClock};
 pub use collections::PlainCollection;
 pub use ends::Ended;
+pub use plain::persist_plain;

@@ -3,7 +3,7 @@ ghost use Rattle.std.specs.Prelude.{◌≡◌, ◌≤◌, ◌+◌, ◌⊎◌, If
 ghost use Rattle.causes.specs.Causes.{Rose};
 ghost use Rattle.feed_text.specs.declared.limits.TheConstants.{MAX_BYTES};
 ghost use Rattle.feed_text.specs.Streams.{Gains, ReadsUpTo};
-ghost use Rattle.persist_app.specs.Endings.{EndsWith, Finishes, IsRun, IsStatus, RunsPlainly, RefusesLine, input_failed_text, words_text};
+ghost use Rattle.persist_app.specs.Endings.{EndsWith, Finishes, IsRun, IsStatus, Performs, RunsPlainly, RefusesLine, input_failed_text, words_text};
 
 use crate::clocks::Clock;
 use crate::endings::Ending;
@@ -17,7 +17,8 @@ use store_core::Store;
 
 // Writes the last line. A put that fails makes the status that of the output.
 fn end_with<Si: Sink>(out: &mut Si, line: &[u8], status: u8) -> u8
-    ensures { EndsWith result status line.now (Si.taken out.old) (Si.taken out.new) (Si.faults out.old) (Si.faults out.new) }
+    ensures ends { EndsWith result status line.now (Si.taken out.old) (Si.taken out.new) (Si.faults out.old) (Si.faults out.new) }
+    ensures later { Si.faults out.old ≤ Si.faults out.new }
 {
     match put_all(out, line) {
         Ok(()) => status,
@@ -48,6 +49,24 @@ fn finish<Si: Sink>(alloc: Global, ending: Ending, out: &mut Si) -> u8
         Ending::OutputFailed => Status::Output as u8,
         Ending::Memory => end_with(out, b"memory\n", Status::Memory as u8),
     }
+}
+
+// Does what the words say, but for the last line.
+fn perform<So: Source, Si: Sink>(
+    alloc: Global,
+    words: &[String],
+    src: &mut So,
+    out: &mut Si,
+) -> Ending
+    ensures ends { Performs (map string_bytes words.now) result (So.left src.old) (So.left src.new) (So.faults src.old) (So.faults src.new)
+        (Si.taken out.old) (Si.taken out.new) (Si.faults out.old) (Si.faults out.new) }
+    ensures reading { ReadsUpTo (MAX_BYTES + 1) (So.left src.old) (So.left src.new) (So.reads src.old) (So.reads src.new) }
+    ensures later { Si.faults out.old ≤ Si.faults out.new }
+{
+    if is_run(words) {
+        return run(alloc, src, out);
+    }
+    Ending::NoCommand
 }
 
 /// Does what the words say, over a source and a sink. The one command is `run`: it reads a feed and writes the replies
@@ -82,11 +101,7 @@ pub fn persist_plain<So: Source, Si: Sink, S: Store, K: Clock>(
     ensures store { result.store ≡ store }
 {
     let _moment = clock.now();
-    let ending = if is_run(words) {
-        run(alloc, src, out)
-    } else {
-        Ending::NoCommand
-    };
+    let ending = perform(alloc, words, src, out);
     Ended {
         status: finish(alloc, ending, out),
         store,
