@@ -9,9 +9,11 @@ mod plain;
 mod run_faults;
 mod runs;
 mod statuses;
+mod system_clocks;
 mod words;
 
 pub use clocks::{Clock, FixedClock};
 pub use collections::PlainCollection;
 pub use ends::Ended;
 pub use plain::persist_plain;
+pub use system_clocks::SystemClock;
