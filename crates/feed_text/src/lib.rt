@@ -24,3 +24,6 @@ pub use line_faults::LineFault;
 pub use parsing::parse_feed;
 pub use printing::{print_line_fault, print_reply};
 pub use replies::RunReply;
+
+#[cfg(test)]
+mod tests;
