@@ -6,8 +6,9 @@ use Rattle.std.specs.Fmt.{decimal, signed_decimal}
 use Rattle.std.specs.List.{AllByRecursion}
 use Rattle.update_core.specs.declared.updates.Update.{Update}
 use Rattle.feed_text.specs.Grammar.{append_line, frontier_text, row_line, snapshot_line, IsRow}
-use Rattle.feed_text.proofs.Cuts.{Lacks, one_cut_front, one_cut_rest, no_cut, lacks_end}
-use Rattle.feed_text.proofs.Spelled.{NoNumber, decimal_lacks, signed_lacks}
+use Rattle.feed_text.proofs.Cuts.{Lacks, no_cut, lacks_end}
+use Rattle.feed_text.proofs.Spelled.{NoNumber}
+use Rattle.feed_text.proofs.Words.{cut_once, decimal_spaceless, signed_spaceless}
 use Rattle.std.proofs.Common.{not}
 use Rattle.std.proofs.lemmas.Bool.Decides.{Decides-eqb, not_from_Decides}
 use Rattle.std.proofs.lemmas.Slice.Eq.{slice_eq-Decides}
@@ -25,24 +26,24 @@ uncut line lacks = λ time diff datum small fits is. no_cut 32 line (decimal tim
 
 pub bad_time : (line word rest : List ℕ) → line ≡ word ++ 32 ∷ rest → Lacks 32 word → NoNumber word → NoWords line
 bad_time line word rest cut lacks bad = λ time diff datum small fits is.
-    bad time small (one_cut_front 32 word (decimal time) rest (signed_decimal diff ++ 32 ∷ datum) lacks (decimal_lacks time small) (sym cut ∙ is))
+    bad time small ((cut_once word (decimal time) rest (signed_decimal diff ++ 32 ∷ datum) lacks (decimal_spaceless time small) (sym cut ∙ is)).0)
 
 pub rest_uncut : (line word rest : List ℕ) → line ≡ word ++ 32 ∷ rest → Lacks 32 word → Lacks 32 rest → NoWords line
 rest_uncut line word rest cut lacks bare = λ time diff datum small fits is.
-    no_cut 32 rest (signed_decimal diff) datum bare (one_cut_rest 32 word (decimal time) rest (signed_decimal diff ++ 32 ∷ datum) lacks (decimal_lacks time small) (sym cut ∙ is))
+    no_cut 32 rest (signed_decimal diff) datum bare ((cut_once word (decimal time) rest (signed_decimal diff ++ 32 ∷ datum) lacks (decimal_spaceless time small) (sym cut ∙ is)).1)
 
 pub bad_difference : (line word rest second datum : List ℕ) → line ≡ word ++ 32 ∷ rest → Lacks 32 word → rest ≡ second ++ 32 ∷ datum → Lacks 32 second
     → ((z : ℤ) → FitsSigned w64 z → second ≡ signed_decimal z → ⊥) → NoWords line
 bad_difference line word rest second datum cut lacks cut_again lacks_again bad = λ time diff other small fits is.
-    let tail = one_cut_rest 32 word (decimal time) rest (signed_decimal diff ++ 32 ∷ other) lacks (decimal_lacks time small) (sym cut ∙ is) in
-    bad diff fits (one_cut_front 32 second (signed_decimal diff) datum other lacks_again (signed_lacks diff fits) (sym cut_again ∙ tail))
+    let tail = (cut_once word (decimal time) rest (signed_decimal diff ++ 32 ∷ other) lacks (decimal_spaceless time small) (sym cut ∙ is)).1 in
+    bad diff fits ((cut_once second (signed_decimal diff) datum other lacks_again (signed_spaceless diff fits) (sym cut_again ∙ tail)).0)
 
 -- the words of a row are those of its line
 same_datum : (time other : ℕ) (diff change : ℤ) (datum bytes : List ℕ) → time < 2 ^ 64 → other < 2 ^ 64 → FitsSigned w64 diff → FitsSigned w64 change
     → decimal time ++ 32 ∷ (signed_decimal diff ++ 32 ∷ datum) ≡ decimal other ++ 32 ∷ (signed_decimal change ++ 32 ∷ bytes) → datum ≡ bytes
 same_datum time other diff change datum bytes p q f g is =
-    let tail = one_cut_rest 32 (decimal time) (decimal other) (signed_decimal diff ++ 32 ∷ datum) (signed_decimal change ++ 32 ∷ bytes) (decimal_lacks time p) (decimal_lacks other q) is in
-    one_cut_rest 32 (signed_decimal diff) (signed_decimal change) datum bytes (signed_lacks diff f) (signed_lacks change g) tail
+    let tail = (cut_once (decimal time) (decimal other) (signed_decimal diff ++ 32 ∷ datum) (signed_decimal change ++ 32 ∷ bytes) (decimal_spaceless time p) (decimal_spaceless other q) is).1 in
+    (cut_once (signed_decimal diff) (signed_decimal change) datum bytes (signed_spaceless diff f) (signed_spaceless change g) tail).1
 
 pub bad_size : (line datum : List ℕ) (time : ℕ) (diff : ℤ) → time < 2 ^ 64 → FitsSigned w64 diff → line ≡ decimal time ++ 32 ∷ (signed_decimal diff ++ 32 ∷ datum)
     → ((length datum ≡ 0) ⊎ (255 < length datum)) → (u : Update) → IsRow u → line ≡ row_line u → ⊥
@@ -89,14 +90,14 @@ abbrev pub NoHead : List ℕ → Type 0
 NoHead line = (l : ℕ) (u : Option ℕ) → l < 2 ^ 64 → IfSome u (λ t. t < 2 ^ 64) → line ≡ append_line l u → ⊥
 
 head_rest : (line word rest : List ℕ) (l : ℕ) (u : Option ℕ) → line ≡ word ++ 32 ∷ rest → Lacks 32 word → line ≡ append_line l u → rest ≡ decimal l ++ 32 ∷ frontier_text u
-head_rest line word rest l u cut lacks is = one_cut_rest 32 word (codes "append") rest (decimal l ++ 32 ∷ frontier_text u) lacks append_lacks (sym cut ∙ is)
+head_rest line word rest l u cut lacks is = (cut_once word (codes "append") rest (decimal l ++ 32 ∷ frontier_text u) lacks append_lacks (sym cut ∙ is)).1
 
 pub head_uncut : (line : List ℕ) → Lacks 32 line → NoHead line
 head_uncut line lacks = λ l u low small is. no_cut 32 line (codes "append") (decimal l ++ 32 ∷ frontier_text u) lacks is
 
 pub other_head : (line word rest : List ℕ) → line ≡ word ++ 32 ∷ rest → Lacks 32 word → word ≢ codes "append" → NoHead line
 other_head line word rest cut lacks apart = λ l u low small is.
-    apart (one_cut_front 32 word (codes "append") rest (decimal l ++ 32 ∷ frontier_text u) lacks append_lacks (sym cut ∙ is))
+    apart ((cut_once word (codes "append") rest (decimal l ++ 32 ∷ frontier_text u) lacks append_lacks (sym cut ∙ is)).0)
 
 pub head_rest_uncut : (line word rest : List ℕ) → line ≡ word ++ 32 ∷ rest → Lacks 32 word → Lacks 32 rest → NoHead line
 head_rest_uncut line word rest cut lacks bare = λ l u low small is.
@@ -104,12 +105,12 @@ head_rest_uncut line word rest cut lacks bare = λ l u low small is.
 
 pub bad_lower : (line word rest lower upper : List ℕ) → line ≡ word ++ 32 ∷ rest → Lacks 32 word → rest ≡ lower ++ 32 ∷ upper → Lacks 32 lower → NoNumber lower → NoHead line
 bad_lower line word rest lower upper cut lacks cut_again lacks_again bad = λ l u low small is.
-    bad l low (one_cut_front 32 lower (decimal l) upper (frontier_text u) lacks_again (decimal_lacks l low) (sym cut_again ∙ head_rest line word rest l u cut lacks is))
+    bad l low ((cut_once lower (decimal l) upper (frontier_text u) lacks_again (decimal_spaceless l low) (sym cut_again ∙ head_rest line word rest l u cut lacks is)).0)
 
 pub bad_upper : (line word rest lower upper : List ℕ) → line ≡ word ++ 32 ∷ rest → Lacks 32 word → rest ≡ lower ++ 32 ∷ upper → Lacks 32 lower
     → ((f : Option ℕ) → IfSome f (λ t. t < 2 ^ 64) → upper ≡ frontier_text f → ⊥) → NoHead line
 bad_upper line word rest lower upper cut lacks cut_again lacks_again bad = λ l u low small is.
-    bad u small (one_cut_rest 32 lower (decimal l) upper (frontier_text u) lacks_again (decimal_lacks l low) (sym cut_again ∙ head_rest line word rest l u cut lacks is))
+    bad u small ((cut_once lower (decimal l) upper (frontier_text u) lacks_again (decimal_spaceless l low) (sym cut_again ∙ head_rest line word rest l u cut lacks is)).1)
 
 -- a line that asks for no content
 abbrev pub NoSnapshot : List ℕ → Type 0
@@ -119,10 +120,10 @@ pub snapshot_uncut : (line : List ℕ) → Lacks 32 line → NoSnapshot line
 snapshot_uncut line lacks = λ t small is. no_cut 32 line (codes "snapshot") (decimal t) lacks is
 
 pub other_snapshot : (line word rest : List ℕ) → line ≡ word ++ 32 ∷ rest → Lacks 32 word → word ≢ codes "snapshot" → NoSnapshot line
-other_snapshot line word rest cut lacks apart = λ t small is. apart (one_cut_front 32 word (codes "snapshot") rest (decimal t) lacks snapshot_lacks (sym cut ∙ is))
+other_snapshot line word rest cut lacks apart = λ t small is. apart ((cut_once word (codes "snapshot") rest (decimal t) lacks snapshot_lacks (sym cut ∙ is)).0)
 
 pub bad_snapshot_time : (line word rest : List ℕ) → line ≡ word ++ 32 ∷ rest → Lacks 32 word → NoNumber rest → NoSnapshot line
-bad_snapshot_time line word rest cut lacks bad = λ t small is. bad t small (one_cut_rest 32 word (codes "snapshot") rest (decimal t) lacks snapshot_lacks (sym cut ∙ is))
+bad_snapshot_time line word rest cut lacks bad = λ t small is. bad t small ((cut_once word (codes "snapshot") rest (decimal t) lacks snapshot_lacks (sym cut ∙ is)).1)
 
 not_true : (b : Bool) → not b ≡ true → b ≡ false
 not_true true h = cc

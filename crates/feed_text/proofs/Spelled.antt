@@ -10,7 +10,6 @@ use Rattle.std.proofs.lemmas.Str.Parse.{IsNumeralModel, numerals_by_value, tells
 use Rattle.std.proofs.lemmas.Fmt.{digits_decimal, digits_value-decimal, decimal-digits_value, decimal_nonempty, first_decimal, decimal_digit}
 use Rattle.feed_text.specs.Grammar.{frontier_text}
 use Rattle.feed_text.specs.Words.{IsPlain}
-use Rattle.feed_text.proofs.Cuts.{Lacks}
 
 pub numerals : IsNumeralModel (AllDigits 10) (digits_value 10)
 numerals = numerals_by_value (AllDigits 10) tells_digits
@@ -88,18 +87,3 @@ no_positive word never (negsuc n) fits first is = first (ap (λ l. get_or l 0 0)
 pub not_positive : (word : List ℕ) (m : ℕ) → m < 2 ^ 64 → word ≡ decimal m → 2 ^ 63 ≤ m → (z : ℤ) → FitsSigned w64 z → get_or word 0 0 ≢ 45 → word ≡ signed_decimal z → ⊥
 not_positive word m low was high (pos n) fits first is = omega (arith, other_number word m n low (omega arith) was is)
 not_positive word m low was high (negsuc n) fits first is = first (ap (λ l. get_or l 0 0) is)
-
-digit_lacks : (b : ℕ) → IsInRange 48 57 b → b ≢ 32
-digit_lacks b h e = omega (arith, h.0)
-
-digits_lack : (word : List ℕ) → AllDigits 10 word → Lacks 32 word
-digits_lack [] h = tt
-digits_lack (b ∷ word) h = (digit_lacks b (digit_from_value b h.0), digits_lack word h.1)
-
--- no space is in a number
-pub decimal_lacks : (n : ℕ) → n < 2 ^ 64 → Lacks 32 (decimal n)
-decimal_lacks n small = digits_lack (decimal n) (digits_decimal numerals n small)
-
-pub signed_lacks : (z : ℤ) → FitsSigned w64 z → Lacks 32 (signed_decimal z)
-signed_lacks (pos n) fits = decimal_lacks n (omega arith)
-signed_lacks (negsuc n) fits = (λ e. omega (arith, e), decimal_lacks (suc n) (omega arith))

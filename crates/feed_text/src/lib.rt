@@ -41,3 +41,5 @@ pub use sources::{Source, SourceFault};
 
 #[cfg(test)]
 mod stream_tests;
+#[cfg(test)]
+mod tests;
