@@ -2,9 +2,9 @@
 ghost use Rattle.std.specs.Prelude.{◌≡◌, ◌≢◌, ◌≤◌, [], ◌∷◌, ◌++◌, Some, None, length, IfOk, OnOk, OnErr};
 ghost use Rattle.causes.specs.Causes.{Counts, Rose};
 ghost use Rattle.store_core.specs.Stores.{empty_store};
-ghost use Rattle.std.specs.List.{AllByRecursion, IsDistinct};
+ghost use Rattle.std.specs.List.{AllByRecursion};
 ghost use Rattle.std.specs.Map.{keys_of};
-ghost use Rattle.store_core.specs.Starting.{CanStart, same_key, same_shard, shards_of, starting_store};
+ghost use Rattle.store_core.specs.Starting.{CanStart, NoneTwice, same_key, same_shard, shards_of, starting_store};
 ghost use Rattle.store_core.specs.Contents.{stored_of};
 ghost use Rattle.store_core.specs.Faults.{outcome_at};
 ghost use Rattle.store_core.specs.Histories.{replay, Adds, IsReplyTo, reply_by, after_outcome, faults_of, entry_of, with_entry};
@@ -94,8 +94,8 @@ impl MemStore {
         shards: ShardList,
         faults: FaultList,
     ) -> Result<MemStore, AllocError>
-        requires keys { IsDistinct same_key (keys_of blobs) }
-        requires shards { IsDistinct same_shard (shards_of shards) }
+        requires keys { NoneTwice same_key (keys_of blobs) }
+        requires shards { NoneTwice same_shard (shards_of shards) }
         requires versions { AllByRecursion CanStart shards }
         ensures history { IfOk result (λ store. history_of store ≡ record { start = starting_store blobs shards; trail = [] }) }
         ensures faults { IfOk result (λ store. listed_faults store ≡ faults) }
