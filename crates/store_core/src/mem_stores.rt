@@ -7,7 +7,7 @@ ghost use Rattle.std.specs.Map.{keys_of};
 ghost use Rattle.store_core.specs.Starting.{CanStart, NoneTwice, same_key, same_shard, shards_of, starting_store};
 ghost use Rattle.store_core.specs.Contents.{stored_of};
 ghost use Rattle.store_core.specs.Faults.{outcome_at};
-ghost use Rattle.store_core.specs.Histories.{replay, Adds, IsReplyTo, reply_by, after_outcome, faults_of, entry_of, with_entry};
+ghost use Rattle.store_core.specs.Histories.{replay, Adds, IsReplyTo, reply_by, after_outcome, faults_of, entry_of, reply, store_after, with_entry};
 
 use crate::blob_lists::BlobList;
 use crate::calls::Call;
@@ -137,6 +137,7 @@ impl Store for MemStore {
 
         // It fails exactly at the listed places.
         ensures exact { OnOk result (history_of self.new ≡ with_entry (history_of self.old) (entry_of client call.now (outcome_at (listed_faults self.old) (length (history_of self.old).trail)))) }
+        ensures reply { IfOk result (λ r. r ≡ reply (store_after (history_of self.old)) (entry_of client call.now (outcome_at (listed_faults self.old) (length (history_of self.old).trail)))) }
         ensures counted { OnOk result (Counts (faults_of (outcome_at (listed_faults self.old) (length (history_of self.old).trail))) (failed_calls self.old) (failed_calls self.new)) }
         ensures uncounted { OnErr result (failed_calls self.new ≡ failed_calls self.old) }
         ensures faults { listed_faults self.new ≡ listed_faults self.old }
