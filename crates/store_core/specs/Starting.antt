@@ -1,5 +1,6 @@
 -- What a store in memory starts with.
-use Rattle.std.specs.Prelude.{ℕ, ◌+◌, ◌^◌, ◌<◌, ◌≤◌, Bool, List, length, map, unwrap_or}
+use Rattle.std.specs.Prelude.{◌≡◌, ℕ, ◌+◌, ◌^◌, ◌<◌, ◌≤◌, Bool, false, ⊤, List, [], ◌∷◌, length, map, unwrap_or}
+use Rattle.std.specs.List.{AllByRecursion}
 use Rattle.std.specs.Ordering.{eq_by_cmp}
 use Rattle.std.specs.Map.{lookup}
 use Rattle.store_core.specs.declared.shards.ShardId.{ShardId}
@@ -13,6 +14,11 @@ same_key a b = eq_by_cmp key_cmp a b
 -- whether two shards are one
 abbrev pub same_shard : ShardId → ShardId → Bool
 same_shard a b = eq_by_cmp shard_cmp a b
+
+-- no two of a list are one
+abbrev pub NoneTwice : {K : Type 0} → (K → K → Bool) → List K → Type 0
+NoneTwice same [] = ⊤
+NoneTwice same (x ∷ xs) = AllByRecursion (λ y. same x y ≡ false) xs × NoneTwice same xs
 
 -- a shard has a version, and the number of its last is below 2 ^ 64
 abbrev pub CanStart : ShardId × ℕ × List (List ℕ) → Type 0

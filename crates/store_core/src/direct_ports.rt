@@ -40,6 +40,7 @@ impl<'a, S: Store> Port for DirectPort<'a, S> {
     ghost loan = { λ p. Some p.store.ghost_name };
 
     /// The store's reply: one entry and no other. It is never `Busy`, and fails only for want of memory.
+    #[tactic(auto, using(crate::proofs::PortLaws::gains_where_added))]
     fn try_call(&mut self, call: &Call) -> Result<Turn, AllocError>
         ensures seen { IfOk result (λ turn. Sees self.old.client (S.history self.old.store.now) (S.history self.new.store.now) call.now turn) }
         // One entry and no other, and never Busy.

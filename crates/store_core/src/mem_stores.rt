@@ -2,12 +2,12 @@
 ghost use Rattle.std.specs.Prelude.{◌≡◌, ◌≢◌, ◌≤◌, [], ◌∷◌, ◌++◌, Some, None, length, IfOk, OnOk, OnErr};
 ghost use Rattle.causes.specs.Causes.{Counts, Rose};
 ghost use Rattle.store_core.specs.Stores.{empty_store};
-ghost use Rattle.std.specs.List.{AllByRecursion, IsDistinct};
+ghost use Rattle.std.specs.List.{AllByRecursion};
 ghost use Rattle.std.specs.Map.{keys_of};
-ghost use Rattle.store_core.specs.Starting.{CanStart, same_key, same_shard, shards_of, starting_store};
+ghost use Rattle.store_core.specs.Starting.{CanStart, NoneTwice, same_key, same_shard, shards_of, starting_store};
 ghost use Rattle.store_core.specs.Contents.{stored_of};
 ghost use Rattle.store_core.specs.Faults.{outcome_at};
-ghost use Rattle.store_core.specs.Histories.{replay, Adds, IsReplyTo, reply_by, after_outcome, faults_of, entry_of, with_entry};
+ghost use Rattle.store_core.specs.Histories.{replay, Adds, IsReplyTo, reply_by, after_outcome, faults_of, entry_of, reply, store_after, with_entry};
 
 use crate::blob_lists::BlobList;
 use crate::calls::Call;
@@ -94,8 +94,8 @@ impl MemStore {
         shards: ShardList,
         faults: FaultList,
     ) -> Result<MemStore, AllocError>
-        requires keys { IsDistinct same_key (keys_of blobs) }
-        requires shards { IsDistinct same_shard (shards_of shards) }
+        requires keys { NoneTwice same_key (keys_of blobs) }
+        requires shards { NoneTwice same_shard (shards_of shards) }
         requires versions { AllByRecursion CanStart shards }
         ensures history { IfOk result (λ store. history_of store ≡ record { start = starting_store blobs shards; trail = [] }) }
         ensures faults { IfOk result (λ store. listed_faults store ≡ faults) }
@@ -137,6 +137,7 @@ impl Store for MemStore {
 
         // It fails exactly at the listed places.
         ensures exact { OnOk result (history_of self.new ≡ with_entry (history_of self.old) (entry_of client call.now (outcome_at (listed_faults self.old) (length (history_of self.old).trail)))) }
+        ensures reply { IfOk result (λ r. r ≡ reply (store_after (history_of self.old)) (entry_of client call.now (outcome_at (listed_faults self.old) (length (history_of self.old).trail)))) }
         ensures counted { OnOk result (Counts (faults_of (outcome_at (listed_faults self.old) (length (history_of self.old).trail))) (failed_calls self.old) (failed_calls self.new)) }
         ensures uncounted { OnErr result (failed_calls self.new ≡ failed_calls self.old) }
         ensures faults { listed_faults self.new ≡ listed_faults self.old }

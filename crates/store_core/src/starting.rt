@@ -1,10 +1,10 @@
 // What a store in memory starts with.
 ghost use Rattle.std.specs.Prelude.{◌≡◌, ◌<◌, ◌≤◌, ◌+◌, ◌^◌, map, length, IfOk, OnOk};
-ghost use Rattle.std.specs.List.{AllByRecursion, IsDistinct};
+ghost use Rattle.std.specs.List.{AllByRecursion};
 ghost use Rattle.std.specs.Map.{keys_of, update_all};
 ghost use Rattle.std.specs.BTreeMap.{get};
 ghost use Rattle.store_core.specs.Stores.{key_cmp, shard_cmp};
-ghost use Rattle.store_core.specs.Starting.{CanStart, log_entry, same_key, same_shard, shards_of, starting_store};
+ghost use Rattle.store_core.specs.Starting.{CanStart, NoneTwice, log_entry, same_key, same_shard, shards_of, starting_store};
 ghost use Rattle.store_core.specs.Contents.{stored_of};
 
 use crate::blob_lists::BlobList;
@@ -75,8 +75,8 @@ pub fn starting_twice(
     blobs: BlobList,
     shards: ShardList,
 ) -> Result<Twice, AllocError>
-    requires keys { IsDistinct same_key (keys_of blobs) }
-    requires shards { IsDistinct same_shard (shards_of shards) }
+    requires keys { NoneTwice same_key (keys_of blobs) }
+    requires shards { NoneTwice same_shard (shards_of shards) }
     requires versions { AllByRecursion CanStart shards }
     ensures first { IfOk result (λ made. stored_of made.first ≡ starting_store blobs shards) }
     ensures second { IfOk result (λ made. stored_of made.second ≡ starting_store blobs shards) }
