@@ -12,3 +12,6 @@ pub use descs::Desc;
 pub use key_lists::KeyList;
 pub use spine_faults::SpineFault;
 pub use spines::Spine;
+
+#[cfg(test)]
+mod tests;
