@@ -2,7 +2,7 @@
 ghost use Rattle.std.specs.Prelude.{◌≡◌, None, Some};
 ghost use Rattle.std.proofs.Common.{refl};
 ghost use Rattle.std.specs.Cmp.{partial_order_from_agreeing_total, partial_equiv_from_equiv};
-ghost use Rattle.update_core.specs.Frontiers.{covers, after, is_from, frontier_cmp, frontier_eq, frontier_total, frontier_equiv, frontier_ties};
+ghost use Rattle.update_core.specs.Frontiers.{covers, after, is_at, is_from, frontier_cmp, frontier_eq, frontier_total, frontier_equiv, frontier_ties};
 
 use std::cmp::Ordering;
 use std::marker::Model;
@@ -100,6 +100,16 @@ impl Frontier {
     {
         match self.0 {
             Some(at) => at <= t,
+            None => false,
+        }
+    }
+
+    /// Whether this frontier is at the time.
+    pub fn is_at(&self, t: u64) -> bool
+        ensures { result ≡ is_at self.now t }
+    {
+        match self.0 {
+            Some(at) => at == t,
             None => false,
         }
     }

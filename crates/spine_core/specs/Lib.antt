@@ -1,0 +1,4 @@
+pub mod Places
+pub mod Spines
+pub mod Settled
+pub mod Contents

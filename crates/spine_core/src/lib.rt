@@ -1,0 +1,17 @@
+//! The batches of a collection, and which of them are due to be merged.
+#![tactic(auto)]
+
+mod batches;
+mod descs;
+mod key_lists;
+mod spine_faults;
+mod spines;
+
+pub use batches::Batch;
+pub use descs::Desc;
+pub use key_lists::KeyList;
+pub use spine_faults::SpineFault;
+pub use spines::Spine;
+
+#[cfg(test)]
+mod tests;
