@@ -20,7 +20,7 @@ run_starts taken all = record { done = []; gained = Gains-none taken; split = re
 
 -- the text of one reply more
 pub run_goes_on : (taken before now : Option (List ℕ)) (all : List FeedLine) (view next : View) (line : FeedLine) (rest : List FeedLine) (text : List ℕ) → RunSoFar taken before all view (line ∷ rest)
-  → text ≡ reply_text (reply_to view line) → next ≡ view_after view line → Gains before now text → RunSoFar taken now all next rest
+    → text ≡ reply_text (reply_to view line) → next ≡ view_after view line → Gains before now text → RunSoFar taken now all next rest
 run_goes_on taken before now all view next line rest text so_far is then more = record {
   done = so_far.done ++ text;
   gained = Gains-append taken before now so_far.done text so_far.gained more;
@@ -37,11 +37,15 @@ run_stops taken now all view rest so_far = (so_far.done, plain_run view rest, so
 
 -- a front of it, with a front of the text of one reply more
 pub run_breaks : (taken before now : Option (List ℕ)) (all : List FeedLine) (view : View) (line : FeedLine) (rest : List FeedLine) (text : List ℕ) → RunSoFar taken before all view (line ∷ rest)
-  → text ≡ reply_text (reply_to view line) → GainsFront before now text → GainsFront taken now (plain_run empty_view all)
+    → text ≡ reply_text (reply_to view line) → GainsFront before now text → GainsFront taken now (plain_run empty_view all)
 run_breaks taken before now all view line rest text so_far is front =
-    let after = plain_run (view_after view line) rest in
-    (so_far.done ++ front.0, front.1 ++ after, so_far.split ∙ ap (λ t. so_far.done ++ (t ++ after)) (sym is ∙ front.2) ∙ ap (λ t. so_far.done ++ t) (append_assoc front.0 front.1 after)
-            ∙ sym (append_assoc so_far.done front.0 (front.1 ++ after)), Gains-append taken before now so_far.done front.0 so_far.gained front.3)
+    let after = plain_run (view_after view line) rest in (
+      so_far.done ++ front.0,
+      front.1 ++ after,
+      so_far.split ∙ ap (λ t. so_far.done ++ (t ++ after)) (sym is ∙ front.2) ∙ ap (λ t. so_far.done ++ t) (append_assoc front.0 front.1 after)
+          ∙ sym (append_assoc so_far.done front.0 (front.1 ++ after)),
+      Gains-append taken before now so_far.done front.0 so_far.gained front.3,
+    )
 
 -- what holds anyway holds of an error
 pub on_err : {T E P : Type 0} (r : Result T E) → P → OnErr r P

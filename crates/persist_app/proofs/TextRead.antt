@@ -31,7 +31,7 @@ fault_had (Some whole) now text number took fault =
 
 -- what a run comes to is told by what has become of the text that was read
 pub run_from_text : (ending : Ending) (left now : Option (List ℕ)) (text : List ℕ) (taken taken_now : Option (List ℕ)) (reads reads_now puts puts_now : ℕ)
-  → TakesAll (MAX_BYTES + 1) left now text → AnswersText ending text taken taken_now puts puts_now → EndsRun ending left now reads reads_now taken taken_now puts puts_now
+    → TakesAll (MAX_BYTES + 1) left now text → AnswersText ending text taken taken_now puts puts_now → EndsRun ending left now reads reads_now taken taken_now puts puts_now
 run_from_text endings.Complete left now text taken taken_now reads reads_now puts puts_now took answered =
     let short : length text < MAX_BYTES + 1 = omega (arith, answered.1.few) in
     record {
@@ -51,13 +51,15 @@ run_from_text endings.Memory left now text taken taken_now reads reads_now puts 
 
 -- a command that ends at a line, with the line written
 pub line_refused : (words : List (List ℕ)) (ending : Ending) (number : ℕ) (left now : Option (List ℕ)) (reads reads_now : ℕ) (taken between taken_now : Option (List ℕ)) (puts puts_now : ℕ)
-  → Performs words ending left now reads reads_now taken between puts puts_now → ending ≡ endings.BadLine number → Gains between taken_now (line_fault_text number) → IsRun words × RefusesLine left taken taken_now
+    → Performs words ending left now reads reads_now taken between puts puts_now → ending ≡ endings.BadLine number → Gains between taken_now (line_fault_text number) → IsRun words × RefusesLine left taken taken_now
 line_refused words ending number left now reads reads_now taken between taken_now puts puts_now performed is written =
-    let stopped = subst (λ e. Performs words e left now reads reads_now taken between puts puts_now) is performed in
-    (stopped.0, record {
-      text = stopped.1;
-      had = stopped.2;
-      number = number;
-      fault = stopped.3;
-      written = subst (λ t. Gains t taken_now (line_fault_text number)) stopped.4 written;
-    })
+    let stopped = subst (λ e. Performs words e left now reads reads_now taken between puts puts_now) is performed in (
+      stopped.0,
+      record {
+        text = stopped.1;
+        had = stopped.2;
+        number = number;
+        fault = stopped.3;
+        written = subst (λ t. Gains t taken_now (line_fault_text number)) stopped.4 written;
+      },
+    )

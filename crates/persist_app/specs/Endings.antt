@@ -81,7 +81,7 @@ abbrev pub Performs : List (List ℕ) → Ending → Option (List ℕ) → Optio
 Performs words endings.Complete left left_now reads reads_now taken taken_now puts puts_now = IsRun words × RunsPlainly left left_now taken taken_now
 Performs words endings.NoCommand left left_now reads reads_now taken taken_now puts puts_now = (IsRun words → ⊥) × (taken_now ≡ taken)
 Performs words (endings.BadLine number) left left_now reads reads_now taken taken_now puts puts_now =
-  IsRun words × (text : List ℕ) × Left left text × IsFirstFault text number × (taken_now ≡ taken)
+    IsRun words × (text : List ℕ) × Left left text × IsFirstFault text number × (taken_now ≡ taken)
 Performs words endings.InputFailed left left_now reads reads_now taken taken_now puts puts_now = IsRun words × Rose reads reads_now × (taken_now ≡ taken)
 Performs words endings.OutputFailed left left_now reads reads_now taken taken_now puts puts_now = IsRun words × Rose puts puts_now
 Performs words endings.Memory left left_now reads reads_now taken taken_now puts puts_now = IsRun words

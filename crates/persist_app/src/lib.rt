@@ -17,3 +17,6 @@ pub use collections::PlainCollection;
 pub use ends::Ended;
 pub use plain::persist_plain;
 pub use system_clocks::SystemClock;
+
+#[cfg(test)]
+mod tests;
