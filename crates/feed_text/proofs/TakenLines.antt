@@ -1,18 +1,16 @@
 -- What a reader has taken: what follows where it goes on, where it stops, and where the text ends.
-use Rattle.std.proofs.Common.{◌≡◌, ◌≢◌, ◌⊎◌, inl, inr, ⊎_elim, ℕ, ◌+◌, ◌-◌, ◌^◌, ◌<◌, ◌≤◌, Bool, true, false, eqb, Option, Some, None, IfSome, List, [], ◌∷◌, ◌++◌, map, length, take, length-append, length-take, append_assoc, append-nil, refl, sym, ap, subst, ◌∙◌, arith}
+use Rattle.std.proofs.Common.{◌≡◌, ◌≢◌, ⊎_elim, ℕ, ◌+◌, ◌^◌, ◌<◌, ◌≤◌, Option, Some, None, IfSome, List, [], ◌∷◌, ◌++◌, length, take, length-append, length-take, append_assoc, append-nil, sym, ap, subst, ◌∙◌, arith}
 use Rattle.std.proofs.lemmas.List.Concat.{flat_map-append}
-use Rattle.std.specs.List.{AllByRecursion}
 use Rattle.update_core.specs.declared.appends.FeedAppend.{FeedAppend}
 use Rattle.update_core.specs.declared.updates.Update.{Update}
 use Rattle.feed_text.specs.declared.feed_lines.FeedLine.{FeedLine}
-use Rattle.feed_text.specs.declared.feed_lines.FeedLine.TheVariants.{Append, Snapshot}
+use Rattle.feed_text.specs.declared.feed_lines.FeedLine.TheVariants.{Append}
 use Rattle.feed_text.specs.declared.limits.TheConstants.{MAX_BYTES, MAX_COMMANDS, MAX_ROWS}
 use Rattle.feed_text.specs.declared.line_faults.LineFault.{LineFault}
 use Rattle.feed_text.specs.declared.line_faults.LineFault.TheVariants.{Memory, Line}
-use Rattle.feed_text.specs.Faults.{IsFaultOf, IsRefusal, IsStop, StopsAt}
-use Rattle.feed_text.specs.Grammar.{append_line, row_line, snapshot_line, dot_line, command_lines, feed_lines, lines_read, IsRow, IsAppend, IsCommand, IsFeed, IsFirstFault, Spells, Begins}
-use Rattle.feed_text.specs.Lines.{lines_of}
-use Rattle.feed_text.specs.Reading.{block_lines, opened_lines, taken_lines, IsTaken, IsNoRow}
+use Rattle.feed_text.specs.Faults.{IsFaultOf, IsRefusal, StopsAt}
+use Rattle.feed_text.specs.Grammar.{append_line, row_line, snapshot_line, dot_line, command_lines, feed_lines, lines_read, IsRow, IsFirstFault, Spells, Begins}
+use Rattle.feed_text.specs.Reading.{block_lines, taken_lines, IsTaken, IsNoRow}
 use Rattle.feed_text.proofs.Faults.{fault_refused, fault_at_end}
 use Rattle.feed_text.proofs.Spelling.{no_command, too_many_commands, no_row, too_many_rows, begins_closed, begins_open, open_spells_none}
 use Rattle.feed_text.proofs.TextLines.{lines_some, lines_read_whole}

@@ -1,5 +1,5 @@
 -- What a fault says of a text, and of the lines of one.
-use Rattle.std.specs.Prelude.{◌≡◌, ⊤, ℕ, ◌+◌, ◌-◌, ◌≤◌, List, [], ◌∷◌, ◌++◌, length, take}
+use Rattle.std.specs.Prelude.{◌≡◌, ⊤, ℕ, ◌+◌, List, [], ◌∷◌, ◌++◌, length}
 use Rattle.feed_text.specs.declared.line_faults.LineFault.{LineFault}
 use Rattle.feed_text.specs.declared.line_faults.LineFault.TheVariants.{Memory, Line}
 use Rattle.feed_text.specs.Grammar.{Begins, IsFirstFault}

@@ -28,7 +28,8 @@ fn with_row(alloc: Global, block: FeedAppend, line: &[u8]) -> Result<Option<Feed
     requires one_line { AllByRecursion (λ b. b ≢ 10) line.now }
     ensures { IfOk result (λ found. MatchOption found
         (IsNoRow block.rows line.now)
-        (λ b. IsAppend b × (block_lines b.lower b.upper b.rows ≡ block_lines block.lower block.upper block.rows ++ line.now ∷ []))) }
+        (λ b. IsAppend b
+        × (block_lines b.lower b.upper b.rows ≡ block_lines block.lower block.upper block.rows ++ line.now ∷ []))) }
 {
     if block.rows.as_slice().len() >= MAX_ROWS {
         return Ok(None);
@@ -55,9 +56,11 @@ fn in_block(
     requires few { number + 1 < 2 ^ 64 }
     requires one_line { AllByRecursion (λ b. b ≢ 10) line.now }
     ensures taken { IfOk result (λ reader. IsTaken reader.commands reader.block reader.number) }
-    ensures ok { IfOk result (λ reader. taken_lines reader.commands reader.block ≡ taken_lines commands (Some block) ++ line.now ∷ []) }
+    ensures ok { IfOk result
+        (λ reader. taken_lines reader.commands reader.block ≡ taken_lines commands (Some block) ++ line.now ∷ []) }
     ensures number { IfOk result (λ reader. reader.number ≡ number + 1) }
-    ensures fault { IfErr result (λ fault. IsRefusal (taken_lines commands (Some block) ++ line.now ∷ []) (number + 1) fault) }
+    ensures fault { IfErr result
+        (λ fault. IsRefusal (taken_lines commands (Some block) ++ line.now ∷ []) (number + 1) fault) }
 {
     if line == b".".as_slice() {
         let mut commands = commands;
@@ -88,9 +91,11 @@ fn between_commands(
     requires taken { IsTaken commands None number }
     requires few { number + 1 < 2 ^ 64 }
     ensures taken { IfOk result (λ reader. IsTaken reader.commands reader.block reader.number) }
-    ensures ok { IfOk result (λ reader. taken_lines reader.commands reader.block ≡ taken_lines commands None ++ line.now ∷ []) }
+    ensures ok { IfOk result
+        (λ reader. taken_lines reader.commands reader.block ≡ taken_lines commands None ++ line.now ∷ []) }
     ensures number { IfOk result (λ reader. reader.number ≡ number + 1) }
-    ensures fault { IfErr result (λ fault. IsRefusal (taken_lines commands None ++ line.now ∷ []) (number + 1) fault) }
+    ensures fault { IfErr result
+        (λ fault. IsRefusal (taken_lines commands None ++ line.now ∷ []) (number + 1) fault) }
 {
     let number = number + 1;
     if commands.as_slice().len() >= MAX_COMMANDS {
@@ -137,9 +142,11 @@ impl FeedReader {
         requires few { self.number + 1 < 2 ^ 64 }
         requires one_line { AllByRecursion (λ b. b ≢ 10) line.now }
         ensures taken { IfOk result (λ reader. IsTaken reader.commands reader.block reader.number) }
-        ensures ok { IfOk result (λ reader. taken_lines reader.commands reader.block ≡ taken_lines self.commands self.block ++ line.now ∷ []) }
+        ensures ok { IfOk result
+            (λ reader. taken_lines reader.commands reader.block ≡ taken_lines self.commands self.block ++ line.now ∷ []) }
         ensures number { IfOk result (λ reader. reader.number ≡ self.number + 1) }
-        ensures fault { IfErr result (λ fault. IsRefusal (taken_lines self.commands self.block ++ line.now ∷ []) (self.number + 1) fault) }
+        ensures fault { IfErr result
+            (λ fault. IsRefusal (taken_lines self.commands self.block ++ line.now ∷ []) (self.number + 1) fault) }
     {
         let FeedReader {
             commands,

@@ -83,7 +83,8 @@ fn negative(word: &[u8]) -> Option<i64>
 // The number from 0 on that a word writes.
 fn positive(word: &[u8]) -> Option<i64>
     ensures some { IfSome result (λ z. FitsSigned w64 z × (word.now ≡ signed_decimal z)) }
-    ensures none { IfNone result ((z : ℤ) → FitsSigned w64 z → slice_index word.now 0 ≢ 45 → word.now ≡ signed_decimal z → ⊥) }
+    ensures none { IfNone result
+        ((z : ℤ) → FitsSigned w64 z → slice_index word.now 0 ≢ 45 → word.now ≡ signed_decimal z → ⊥) }
 {
     let size = number(word)?;
     if size >= 1 << 63 {

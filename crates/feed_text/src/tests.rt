@@ -36,12 +36,19 @@ fn feeds_are_read(rt: HostRuntime) {
         ("append 0 5\n0 1 .\n.\n", 1),
         ("append 0 5\n0 1  a b \n.\n", 1),
         ("append 0 5\n0 0 a\n.\n", 1),
-        ("append 0 5\n0 9223372036854775807 a\n0 -9223372036854775808 a\n.\n", 1),
+        (
+            "append 0 5\n0 9223372036854775807 a\n0 -9223372036854775808 a\n.\n",
+            1,
+        ),
         ("append 0 5\n18446744073709551615 1 a\n.\n", 1),
         ("append 0 5\n3 -1 a\n.\nsnapshot 2\nappend 5 9\n.\n", 3),
     ];
     for (text, want) in cases {
-        assert_eq!(rt; outcome_of(rt.alloc(), text.as_bytes()), Outcome::Commands(want), "at {text}");
+        assert_eq!(rt;
+            outcome_of(rt.alloc(), text.as_bytes()),
+            Outcome::Commands(want),
+            "at {text}"
+        );
     }
 }
 
@@ -92,7 +99,11 @@ fn other_texts_are_refused_at_a_line(rt: HostRuntime) {
         ("append 0 5\n\n.\n", 2),
     ];
     for (text, want) in cases {
-        assert_eq!(rt; outcome_of(rt.alloc(), text.as_bytes()), Outcome::Line(want), "at {text}");
+        assert_eq!(rt;
+            outcome_of(rt.alloc(), text.as_bytes()),
+            Outcome::Line(want),
+            "at {text}"
+        );
     }
 }
 
@@ -197,16 +208,35 @@ fn replies_have_texts(rt: HostRuntime) -> Result<(), Fail> {
         (RunReply::Accepted, "ok\n"),
         (RunReply::Empty, "empty\n"),
         (RunReply::Range { row: 3 }, "range 3\n"),
-        (RunReply::Mismatch { upper: Frontier::at(40) }, "mismatch 40\n"),
+        (
+            RunReply::Mismatch {
+                upper: Frontier::at(40),
+            },
+            "mismatch 40\n",
+        ),
         (RunReply::Mismatch { upper: closed }, "mismatch closed\n"),
-        (RunReply::Heavy { weight: 4_611_686_018_427_387_904 }, "heavy 4611686018427387904\n"),
+        (
+            RunReply::Heavy {
+                weight: 4_611_686_018_427_387_904,
+            },
+            "heavy 4611686018427387904\n",
+        ),
         (RunReply::Rows(rows), "-7 a b\n12 .\n.\n"),
         (RunReply::Rows(RowList::new(alloc)), ".\n"),
         (RunReply::Early { since: 8 }, "early 8\n"),
-        (RunReply::Late { upper: Frontier::at(0) }, "late 0\n"),
+        (
+            RunReply::Late {
+                upper: Frontier::at(0),
+            },
+            "late 0\n",
+        ),
     ];
     for (reply, want) in &cases {
-        assert_eq!(rt; text_of(alloc, reply)?.as_slice(), want.as_bytes(), "for {want}");
+        assert_eq!(rt;
+            text_of(alloc, reply)?.as_slice(),
+            want.as_bytes(),
+            "for {want}"
+        );
     }
     let mut line = Vec::from_slice(alloc, b"ok\n")?;
     print_line_fault(&mut line, 12)?;

@@ -1,8 +1,5 @@
-use Rattle.std.proofs.Common.{Option, None, subst, refl}
-use Rattle.std.specs.Prelude.{MatchOption, ◌++◌, ◌∷◌, [], ◌≡◌}
-use Rattle.update_core.specs.declared.appends.FeedAppend.{FeedAppend}
-use Rattle.feed_text.specs.Grammar.{dot_line, IsAppend}
-use Rattle.feed_text.specs.Reading.{block_lines, IsNoRow}
+use Rattle.std.proofs.Common.{refl}
+use Rattle.feed_text.specs.Grammar.{dot_line}
 use Rattle.feed_text.proofs.LineWords.{same_word, different_word}
 use Rattle.feed_text.proofs.TakenLines.{dot_taken, no_row_refused}
 use Rattle.feed_text.proofs.feed_readers.in_block.Goals as goal

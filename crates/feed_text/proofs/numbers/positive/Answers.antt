@@ -1,4 +1,3 @@
-use Rattle.std.proofs.Common.{arith}
 use Rattle.feed_text.proofs.Spelled.{not_positive}
 use Rattle.feed_text.proofs.numbers.positive.Goals as goal
 

@@ -1,4 +1,4 @@
-use Rattle.std.proofs.Common.{◌≡◌, Option, List, subst}
+use Rattle.std.proofs.Common.{◌≡◌, Option, subst}
 use Rattle.update_core.specs.declared.appends.FeedAppend.{FeedAppend}
 use Rattle.feed_text.specs.Grammar.{lines_read}
 use Rattle.feed_text.specs.Reading.{taken_lines, IsTaken}
