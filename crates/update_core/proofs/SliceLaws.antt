@@ -18,18 +18,18 @@ use Rattle.update_core.proofs.Consolidated.{consolidated_is, keys-consolidated, 
 use Rattle.update_core.proofs.UpdateLaws.{times_total, is_slice}
 
 -- ---- frontiers and times
-covered_on : (g h : Option ℕ) (t : ℕ) → is_gt (frontier_cmp g h) ≡ false → covers g t ≡ true → covers h t ≡ true
+pub covered_on : (g h : Option ℕ) (t : ℕ) → is_gt (frontier_cmp g h) ≡ false → covers g t ≡ true → covers h t ≡ true
 covered_on None None t le c = refl
 covered_on None (Some h) t le c = cc
 covered_on (Some g) None t le c = refl
 covered_on (Some g) (Some h) t le c = grind (arith, nat_tests)
 
-from_before : (f g : Option ℕ) (t : ℕ) → is_gt (frontier_cmp f g) ≡ false → covers g t ≡ false → is_from f t ≡ true
+pub from_before : (f g : Option ℕ) (t : ℕ) → is_gt (frontier_cmp f g) ≡ false → covers g t ≡ false → is_from f t ≡ true
 from_before f None t le c = cc
 from_before None (Some g) t le c = cc
 from_before (Some f) (Some g) t le c = grind (arith, nat_tests)
 
-apart : (g : Option ℕ) (t : ℕ) → is_from g t ≡ not (covers g t)
+pub apart : (g : Option ℕ) (t : ℕ) → is_from g t ≡ not (covers g t)
 apart None t = refl
 apart (Some g) t = grind (arith, nat_tests)
 
@@ -37,7 +37,7 @@ below_later : (g : Option ℕ) (a b : ℕ) → covers g a ≡ true → is_from g
 below_later None a b c d = cc
 below_later (Some g) a b c d = grind (arith, nat_tests)
 
-parts_of : (f c1 c2 g : Bool) → g ≡ not c1 → (c1 ≡ true → c2 ≡ true) → (c1 ≡ false → f ≡ true) → f && c2 ≡ (f && c1) || (g && c2)
+pub parts_of : (f c1 c2 g : Bool) → g ≡ not c1 → (c1 ≡ true → c2 ≡ true) → (c1 ≡ false → f ≡ true) → f && c2 ≡ (f && c1) || (g && c2)
 parts_of f true true g e p q = ap (λ (b : Bool). f && true) e ∙ or_false (f && true) g e
   where
     or_false : (x g : Bool) → g ≡ false → x ≡ x || (g && true)
@@ -54,10 +54,26 @@ parts_of f false c2 g e p q = from_true f g c2 (q refl) e
     from_true true false c a b = cc
     from_true false g c a b = cc
 
-exclusive : (f c1 c2 g : Bool) → g ≡ not c1 → (f && c1) && (g && c2) ≡ false
+pub exclusive : (f c1 c2 g : Bool) → g ≡ not c1 → (f && c1) && (g && c2) ≡ false
 exclusive true true c2 g e = ap (λ b. b && c2) e
 exclusive true false c2 g e = refl
 exclusive false c1 c2 g e = refl
+
+-- a number that counts in one of two parts
+pub shared : (p q r : Bool) (z a b : ℤ) → r ≡ p || q → p && q ≡ false → cond r z (pos 0) +ℤ (a +ℤ b) ≡ (cond p z (pos 0) +ℤ a) +ℤ (cond q z (pos 0) +ℤ b)
+shared true true r z a b e f = cc
+shared true false r z a b e f = ap (λ c. cond c z (pos 0) +ℤ (a +ℤ b)) e ∙ first z a b
+  where
+    first : (z a b : ℤ) → z +ℤ (a +ℤ b) ≡ (z +ℤ a) +ℤ (pos 0 +ℤ b)
+    first z a b = omega (arith, ints)
+shared false true r z a b e f = ap (λ c. cond c z (pos 0) +ℤ (a +ℤ b)) e ∙ second z a b
+  where
+    second : (z a b : ℤ) → z +ℤ (a +ℤ b) ≡ (pos 0 +ℤ a) +ℤ (z +ℤ b)
+    second z a b = omega (arith, ints)
+shared false false r z a b e f = ap (λ c. cond c z (pos 0) +ℤ (a +ℤ b)) e ∙ neither a b
+  where
+    neither : (a b : ℤ) → pos 0 +ℤ (a +ℤ b) ≡ (pos 0 +ℤ a) +ℤ (pos 0 +ℤ b)
+    neither a b = omega (arith, ints)
 
 -- ---- sums over the parts of a list
 module _ {K : Type 0} (R : K → K → Ordering) {A : Type 0} (entry : A → K × ℤ) where
@@ -68,21 +84,6 @@ module _ {K : Type 0} (R : K → K → Ordering) {A : Type 0} (entry : A → K �
   unfolding amount
   opened true x xs k = refl
   opened false x xs k = sym (+ℤ_idl _)
-
-  shared : (p q r : Bool) (z a b : ℤ) → r ≡ p || q → p && q ≡ false → cond r z (pos 0) +ℤ (a +ℤ b) ≡ (cond p z (pos 0) +ℤ a) +ℤ (cond q z (pos 0) +ℤ b)
-  shared true true r z a b e f = cc
-  shared true false r z a b e f = ap (λ c. cond c z (pos 0) +ℤ (a +ℤ b)) e ∙ first z a b
-    where
-      first : (z a b : ℤ) → z +ℤ (a +ℤ b) ≡ (z +ℤ a) +ℤ (pos 0 +ℤ b)
-      first z a b = omega (arith, ints)
-  shared false true r z a b e f = ap (λ c. cond c z (pos 0) +ℤ (a +ℤ b)) e ∙ second z a b
-    where
-      second : (z a b : ℤ) → z +ℤ (a +ℤ b) ≡ (pos 0 +ℤ a) +ℤ (z +ℤ b)
-      second z a b = omega (arith, ints)
-  shared false false r z a b e f = ap (λ c. cond c z (pos 0) +ℤ (a +ℤ b)) e ∙ neither a b
-    where
-      neither : (a b : ℤ) → pos 0 +ℤ (a +ℤ b) ≡ (pos 0 +ℤ a) +ℤ (pos 0 +ℤ b)
-      neither a b = omega (arith, ints)
 
   pub total-filter_parts : (p q r : A → Bool) → ((x : A) → r x ≡ p x || q x) → ((x : A) → p x && q x ≡ false) → (xs : List A) (k : K)
       → total R (map entry (filter r xs)) k ≡ total R (map entry (filter p xs)) k +ℤ total R (map entry (filter q xs)) k
@@ -120,7 +121,7 @@ module _ {K : Type 0} (R : K → K → Ordering) {A : Type 0} (entry : A → K �
   }
 
 -- ---- slices
-none_there : (f g : Option ℕ) (us : List Update) → AllByRecursion (λ u. covers g u.time ≡ false) us → between f g us ≡ []
+pub none_there : (f g : Option ℕ) (us : List Update) → AllByRecursion (λ u. covers g u.time ≡ false) us → between f g us ≡ []
 none_there f g [] h = refl
 none_there f g (u ∷ us) h = ap (λ b. cond b (u ∷ between f g us) (between f g us)) (closed_off (is_from f u.time) (covers g u.time) h.0) ∙ none_there f g us h.1
   where
@@ -128,7 +129,7 @@ none_there f g (u ∷ us) h = ap (λ b. cond b (u ∷ between f g us) (between f
     closed_off true b e = e
     closed_off false b e = refl
 
-between-append : (f g : Option ℕ) (us vs : List Update) → between f g (us ++ vs) ≡ between f g us ++ between f g vs
+pub between-append : (f g : Option ℕ) (us vs : List Update) → between f g (us ++ vs) ≡ between f g us ++ between f g vs
 between-append f g [] vs = refl
 between-append f g (u ∷ us) vs = ap (λ l. cond (is_from f u.time && covers g u.time) (u ∷ l) l) (between-append f g us vs) ∙ pushed (is_from f u.time && covers g u.time)
   where
@@ -136,7 +137,7 @@ between-append f g (u ∷ us) vs = ap (λ l. cond (is_from f u.time && covers g 
     pushed true = refl
     pushed false = refl
 
-append-nil_updates : (us : List Update) → us ++ [] ≡ us
+pub append-nil_updates : (us : List Update) → us ++ [] ≡ us
 append-nil_updates [] = refl
 append-nil_updates (u ∷ us) = λ i. u ∷ append-nil_updates us i
 

@@ -24,7 +24,7 @@ moments_total = then_total (on_total (λ (m : List ℕ × ℕ). m.0) nat_list_cm
 pub moments_exact : CmpEqualImpliesEq moment_cmp
 moments_exact = exact_pairs (slice_cmp nat_cmp) nat_cmp exact_bytes exact_unsigned
 
-entries_back : (es : List ((List ℕ × ℕ) × ℤ)) → map moment_entry (map update_at es) ≡ es
+pub entries_back : (es : List ((List ℕ × ℕ) × ℤ)) → map moment_entry (map update_at es) ≡ es
 entries_back [] = refl
 entries_back (e ∷ es) = λ i. e ∷ entries_back es i
 
@@ -36,7 +36,7 @@ rows_back : (rs : List Row) → map row_at (map row_entry rs) ≡ rs
 rows_back [] = refl
 rows_back (r ∷ rs) = λ i. r ∷ rows_back rs i
 
-entries-append : (us vs : List Update) → map moment_entry (us ++ vs) ≡ map moment_entry us ++ map moment_entry vs
+pub entries-append : (us vs : List Update) → map moment_entry (us ++ vs) ≡ map moment_entry us ++ map moment_entry vs
 entries-append [] vs = refl
 entries-append (u ∷ us) vs = λ i. moment_entry u ∷ entries-append us vs i
 
