@@ -121,7 +121,7 @@ module _ {K : Type 0} (R : K → K → Ordering) {A : Type 0} (entry : A → K �
   }
 
 -- ---- slices
-pub none_there : (f g : Option ℕ) (us : List Update) → AllByRecursion (λ u. covers g u.time ≡ false) us → between f g us ≡ []
+none_there : (f g : Option ℕ) (us : List Update) → AllByRecursion (λ u. covers g u.time ≡ false) us → between f g us ≡ []
 none_there f g [] h = refl
 none_there f g (u ∷ us) h = ap (λ b. cond b (u ∷ between f g us) (between f g us)) (closed_off (is_from f u.time) (covers g u.time) h.0) ∙ none_there f g us h.1
   where
@@ -129,7 +129,7 @@ none_there f g (u ∷ us) h = ap (λ b. cond b (u ∷ between f g us) (between f
     closed_off true b e = e
     closed_off false b e = refl
 
-pub between-append : (f g : Option ℕ) (us vs : List Update) → between f g (us ++ vs) ≡ between f g us ++ between f g vs
+between-append : (f g : Option ℕ) (us vs : List Update) → between f g (us ++ vs) ≡ between f g us ++ between f g vs
 between-append f g [] vs = refl
 between-append f g (u ∷ us) vs = ap (λ l. cond (is_from f u.time && covers g u.time) (u ∷ l) l) (between-append f g us vs) ∙ pushed (is_from f u.time && covers g u.time)
   where
@@ -137,7 +137,7 @@ between-append f g (u ∷ us) vs = ap (λ l. cond (is_from f u.time && covers g 
     pushed true = refl
     pushed false = refl
 
-pub append-nil_updates : (us : List Update) → us ++ [] ≡ us
+append-nil_updates : (us : List Update) → us ++ [] ≡ us
 append-nil_updates [] = refl
 append-nil_updates (u ∷ us) = λ i. u ∷ append-nil_updates us i
 
@@ -179,6 +179,10 @@ entries-append : (us vs : List Update) → map time_entry (us ++ vs) ≡ map tim
 entries-append [] vs = refl
 entries-append (u ∷ us) vs = λ i. time_entry u ∷ entries-append us vs i
 
+-- what comes past g is in no part up to g
+pub between-more : (us more : List Update) (f g : Option ℕ) → OutOf g more → between f g (us ++ more) ≡ between f g us
+between-more us more f g out = between-append f g us more ∙ ap (λ l. between f g us ++ l) (none_there f g more out.all) ∙ append-nil_updates (between f g us)
+
 -- a slice up to g, and then, when more has come past g, one from g on, are one slice
 pub slices_join : (us more : List Update) (f g h : Option ℕ) → is_gt (frontier_cmp f g) ≡ false → is_gt (frontier_cmp g h) ≡ false → OutOf g more
     → slice_of us f g ++ slice_of (us ++ more) g h ≡ slice_of (us ++ more) f h
@@ -187,7 +191,7 @@ slices_join us more f g h fg gh out =
     let es = map time_entry (between f g us) in
     let fs = map time_entry (between g h all) in
     let gs = map time_entry (between f h all) in
-    let same_first : between f g all ≡ between f g us = between-append f g us more ∙ ap (λ l. between f g us ++ l) (none_there f g more out.all) ∙ append-nil_updates (between f g us) in
+    let same_first = between-more us more f g out in
     let sums : (k : ℕ × List ℕ) → total time_cmp gs k ≡ total time_cmp es k +ℤ total time_cmp fs k = λ k.
     total-filter_parts time_cmp time_entry (λ u. is_from f u.time && covers g u.time) (λ u. is_from g u.time && covers h u.time) (λ u. is_from f u.time && covers h u.time)
     (λ u. parts_of (is_from f u.time) (covers g u.time) (covers h u.time) (is_from g u.time) (apart g u.time) (covered_on g h u.time gh) (from_before f g u.time fg))

@@ -15,10 +15,10 @@ use Rattle.std.specs.Prelude.{nat_le}
 use Rattle.update_core.specs.declared.updates.Update.{Update}
 use Rattle.update_core.specs.Frontiers.{covers, is_from, frontier_cmp}
 use Rattle.update_core.specs.Totals.{total, added, consolidated}
-use Rattle.update_core.specs.Updates.{moment_cmp, moment_entry, time_cmp, time_entry, update_in_time, datum_entry, row_at, update_at, until, between, cons, sum_of, slice_of, moved, moved_by, weight_of, OutOf}
+use Rattle.update_core.specs.Updates.{moment_cmp, moment_entry, time_cmp, time_entry, update_in_time, datum_entry, row_at, update_at, until, between, cons, sum_of, slice_of, moved, moved_by, weight_of}
 use Rattle.update_core.proofs.Consolidated.{is_zero, cond_zero, cond_sum, swapped, consolidated_from_totals}
-use Rattle.update_core.proofs.UpdateLaws.{moments_total, moments_exact, times_total, times_exact, entries_back, entries-append}
-use Rattle.update_core.proofs.SliceLaws.{covered_on, from_before, apart, parts_of, exclusive, shared, none_there, between-append, append-nil_updates}
+use Rattle.update_core.proofs.UpdateLaws.{moments_total, moments_exact, times_total, times_exact, entries_back, entries-append, until-moved}
+use Rattle.update_core.proofs.SliceLaws.{covered_on, from_before, apart, parts_of, exclusive, shared}
 
 -- the sum of the differences at the keys that pass a test
 pub tally : {K : Type 0} → (K → Bool) → List (K × ℤ) → ℤ
@@ -174,10 +174,6 @@ module _ (p : List ℕ × ℕ → Bool) where
       (λ u. parts_of (is_from f u.time) (covers g u.time) (covers h u.time) (is_from g u.time) (apart g u.time) (covered_on g h u.time gh) (from_before f g u.time fg))
       (λ u. exclusive (is_from f u.time) (covers g u.time) (covers h u.time) (is_from g u.time) (apart g u.time)) us
 
--- what comes past g is in no part up to g
-pub between-more : (us more : List Update) (f g : Option ℕ) → OutOf g more → between f g (us ++ more) ≡ between f g us
-between-more us more f g out = between-append f g us more ∙ ap (λ l. between f g us ++ l) (none_there f g more out.all) ∙ append-nil_updates (between f g us)
-
 -- between a frontier and itself there is nothing
 pub between_itself : (f : Option ℕ) (us : List Update) → between f f us ≡ []
 between_itself f [] = refl
@@ -207,3 +203,10 @@ sum_of-covered us g t h = ap (λ vs. map row_at (consolidated (slice_cmp nat_cmp
     kept : (vs : List Update) → until t (between (Some 0) g vs) ≡ until t vs
     kept [] = refl
     kept (u ∷ vs) = inside (is_from (Some 0) u.time) (covers g u.time) (nat_le u.time t) u (between (Some 0) g vs) (until t vs) (kept vs) (from_0 u.time) (later g u.time h) refl
+
+-- what a move leaves
+pub tally_of-at_datum-moved : (us : List Update) (s t : ℕ) (d : List ℕ) → s ≤ t → tally_of (at_datum t d) (moved us s) ≡ tally_of (at_datum t d) us
+tally_of-at_datum-moved us s t d h = sym (total-until (moved us s) t d) ∙ ap (λ es. total (slice_cmp nat_cmp) es d) (until-moved us s t h) ∙ total-until us t d
+
+pub tally_of-at_moved-moved : (us : List Update) (s t : ℕ) (k : List ℕ × ℕ) → s ≤ t → tally_of (at_moved t k) (moved us s) ≡ tally_of (at_moved t k) us
+tally_of-at_moved-moved us s t k h = sym (total-moved (moved us s) t k) ∙ ap (λ vs. total moment_cmp (map moment_entry vs) k) (moved-moved us s t h) ∙ total-moved us t k

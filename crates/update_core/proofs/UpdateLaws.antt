@@ -67,7 +67,7 @@ picked true false e u v us vs p q r = cc
 picked false true e u v us vs p q r = cc
 picked false false e u v us vs p q r = r
 
-until-moved : (us : List Update) (s t : ℕ) → s ≤ t → map datum_entry (until t (moved us s)) ≡ map datum_entry (until t us)
+pub until-moved : (us : List Update) (s t : ℕ) → s ≤ t → map datum_entry (until t (moved us s)) ≡ map datum_entry (until t us)
 until-moved [] s t h = refl
 until-moved (u ∷ us) s t h = picked (nat_le (max u.time s) t) (nat_le u.time t) (datum_entry u) (moved_by s u) u (until t (moved us s)) (until t us) (same_test u.time s t h) refl (until-moved us s t h)
 
