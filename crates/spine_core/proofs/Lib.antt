@@ -1,3 +1,4 @@
 pub mod Adjacent
 pub mod SpineLaws
 pub mod Halving
+pub mod ContentLaws

@@ -6,7 +6,7 @@ use Rattle.std.specs.Bool.{Decides}
 use Rattle.std.specs.List.{remove}
 use Rattle.update_core.specs.Frontiers.{covers, is_at}
 use Rattle.spine_core.specs.declared.batches.Batch.{Batch}
-use Rattle.spine_core.specs.Spines.{Follows, IsSpine, upper_from, HasNoPair, Pair, Replaced}
+use Rattle.spine_core.specs.Spines.{Follows, IsSpine, upper_from, spine_upper, HasNoPair, Pair, Replaced}
 
 at_time : (f : Option ℕ) (t : ℕ) → is_at f t ≡ true → f ≡ Some t
 at_time None t h = cc
@@ -115,3 +115,18 @@ differs r x y h f e = false≢true (sym f ∙ h e)
 
 pub moved_test : {A : Type 0} (r : Bool) (a b c d : A) → a ≡ c → b ≡ d → Decides r (a ≡ b) → Decides r (c ≡ d)
 moved_test r a b c d p q h = (λ t. sym p ∙ h.0 t ∙ q, λ e. h.1 (p ∙ e ∙ sym q))
+
+upper_from-push : (f : Option ℕ) (bs : List Batch) (b : Batch) → upper_from f (bs ++ b ∷ []) ≡ b.desc.upper
+upper_from-push f [] b = refl
+upper_from-push f (c ∷ cs) b = upper_from-push c.desc.upper cs b
+
+pub spine_upper-push : (bs : List Batch) (b : Batch) → spine_upper (bs ++ b ∷ []) ≡ b.desc.upper
+spine_upper-push bs b = upper_from-push (Some 0) bs b
+
+upper_from-merge : (f : Option ℕ) (front back : List Batch) (l r m : Batch) → m.desc.upper ≡ r.desc.upper → upper_from f (front ++ m ∷ back) ≡ upper_from f (front ++ l ∷ r ∷ back)
+upper_from-merge f [] back l r m h = ap (λ g. upper_from g back) h
+upper_from-merge f (b ∷ bs) back l r m h = upper_from-merge b.desc.upper bs back l r m h
+
+pub spine_upper-replaced : (left right merged : Batch) (old new : List Batch) → merged.desc.upper ≡ right.desc.upper → Replaced left right merged old new → spine_upper new ≡ spine_upper old
+spine_upper-replaced left right merged old new h made =
+    ap spine_upper made.1 ∙ upper_from-merge (Some 0) made.0.front made.0.back left right merged h ∙ sym (ap spine_upper made.0.stands)

@@ -4,6 +4,7 @@
 mod batches;
 mod descs;
 mod key_lists;
+pub mod laws;
 mod spine_faults;
 mod spines;
 

@@ -18,18 +18,18 @@ use Rattle.update_core.proofs.Consolidated.{consolidated_is, keys-consolidated, 
 use Rattle.update_core.proofs.UpdateLaws.{times_total, is_slice}
 
 -- ---- frontiers and times
-covered_on : (g h : Option ℕ) (t : ℕ) → is_gt (frontier_cmp g h) ≡ false → covers g t ≡ true → covers h t ≡ true
+pub covered_on : (g h : Option ℕ) (t : ℕ) → is_gt (frontier_cmp g h) ≡ false → covers g t ≡ true → covers h t ≡ true
 covered_on None None t le c = refl
 covered_on None (Some h) t le c = cc
 covered_on (Some g) None t le c = refl
 covered_on (Some g) (Some h) t le c = grind (arith, nat_tests)
 
-from_before : (f g : Option ℕ) (t : ℕ) → is_gt (frontier_cmp f g) ≡ false → covers g t ≡ false → is_from f t ≡ true
+pub from_before : (f g : Option ℕ) (t : ℕ) → is_gt (frontier_cmp f g) ≡ false → covers g t ≡ false → is_from f t ≡ true
 from_before f None t le c = cc
 from_before None (Some g) t le c = cc
 from_before (Some f) (Some g) t le c = grind (arith, nat_tests)
 
-apart : (g : Option ℕ) (t : ℕ) → is_from g t ≡ not (covers g t)
+pub apart : (g : Option ℕ) (t : ℕ) → is_from g t ≡ not (covers g t)
 apart None t = refl
 apart (Some g) t = grind (arith, nat_tests)
 
@@ -37,7 +37,7 @@ below_later : (g : Option ℕ) (a b : ℕ) → covers g a ≡ true → is_from g
 below_later None a b c d = cc
 below_later (Some g) a b c d = grind (arith, nat_tests)
 
-parts_of : (f c1 c2 g : Bool) → g ≡ not c1 → (c1 ≡ true → c2 ≡ true) → (c1 ≡ false → f ≡ true) → f && c2 ≡ (f && c1) || (g && c2)
+pub parts_of : (f c1 c2 g : Bool) → g ≡ not c1 → (c1 ≡ true → c2 ≡ true) → (c1 ≡ false → f ≡ true) → f && c2 ≡ (f && c1) || (g && c2)
 parts_of f true true g e p q = ap (λ (b : Bool). f && true) e ∙ or_false (f && true) g e
   where
     or_false : (x g : Bool) → g ≡ false → x ≡ x || (g && true)
@@ -54,10 +54,26 @@ parts_of f false c2 g e p q = from_true f g c2 (q refl) e
     from_true true false c a b = cc
     from_true false g c a b = cc
 
-exclusive : (f c1 c2 g : Bool) → g ≡ not c1 → (f && c1) && (g && c2) ≡ false
+pub exclusive : (f c1 c2 g : Bool) → g ≡ not c1 → (f && c1) && (g && c2) ≡ false
 exclusive true true c2 g e = ap (λ b. b && c2) e
 exclusive true false c2 g e = refl
 exclusive false c1 c2 g e = refl
+
+-- a number that counts in one of two parts
+pub shared : (p q r : Bool) (z a b : ℤ) → r ≡ p || q → p && q ≡ false → cond r z (pos 0) +ℤ (a +ℤ b) ≡ (cond p z (pos 0) +ℤ a) +ℤ (cond q z (pos 0) +ℤ b)
+shared true true r z a b e f = cc
+shared true false r z a b e f = ap (λ c. cond c z (pos 0) +ℤ (a +ℤ b)) e ∙ first z a b
+  where
+    first : (z a b : ℤ) → z +ℤ (a +ℤ b) ≡ (z +ℤ a) +ℤ (pos 0 +ℤ b)
+    first z a b = omega (arith, ints)
+shared false true r z a b e f = ap (λ c. cond c z (pos 0) +ℤ (a +ℤ b)) e ∙ second z a b
+  where
+    second : (z a b : ℤ) → z +ℤ (a +ℤ b) ≡ (pos 0 +ℤ a) +ℤ (z +ℤ b)
+    second z a b = omega (arith, ints)
+shared false false r z a b e f = ap (λ c. cond c z (pos 0) +ℤ (a +ℤ b)) e ∙ neither a b
+  where
+    neither : (a b : ℤ) → pos 0 +ℤ (a +ℤ b) ≡ (pos 0 +ℤ a) +ℤ (pos 0 +ℤ b)
+    neither a b = omega (arith, ints)
 
 -- ---- sums over the parts of a list
 module _ {K : Type 0} (R : K → K → Ordering) {A : Type 0} (entry : A → K × ℤ) where
@@ -68,21 +84,6 @@ module _ {K : Type 0} (R : K → K → Ordering) {A : Type 0} (entry : A → K �
   unfolding amount
   opened true x xs k = refl
   opened false x xs k = sym (+ℤ_idl _)
-
-  shared : (p q r : Bool) (z a b : ℤ) → r ≡ p || q → p && q ≡ false → cond r z (pos 0) +ℤ (a +ℤ b) ≡ (cond p z (pos 0) +ℤ a) +ℤ (cond q z (pos 0) +ℤ b)
-  shared true true r z a b e f = cc
-  shared true false r z a b e f = ap (λ c. cond c z (pos 0) +ℤ (a +ℤ b)) e ∙ first z a b
-    where
-      first : (z a b : ℤ) → z +ℤ (a +ℤ b) ≡ (z +ℤ a) +ℤ (pos 0 +ℤ b)
-      first z a b = omega (arith, ints)
-  shared false true r z a b e f = ap (λ c. cond c z (pos 0) +ℤ (a +ℤ b)) e ∙ second z a b
-    where
-      second : (z a b : ℤ) → z +ℤ (a +ℤ b) ≡ (pos 0 +ℤ a) +ℤ (z +ℤ b)
-      second z a b = omega (arith, ints)
-  shared false false r z a b e f = ap (λ c. cond c z (pos 0) +ℤ (a +ℤ b)) e ∙ neither a b
-    where
-      neither : (a b : ℤ) → pos 0 +ℤ (a +ℤ b) ≡ (pos 0 +ℤ a) +ℤ (pos 0 +ℤ b)
-      neither a b = omega (arith, ints)
 
   pub total-filter_parts : (p q r : A → Bool) → ((x : A) → r x ≡ p x || q x) → ((x : A) → p x && q x ≡ false) → (xs : List A) (k : K)
       → total R (map entry (filter r xs)) k ≡ total R (map entry (filter p xs)) k +ℤ total R (map entry (filter q xs)) k
@@ -178,6 +179,10 @@ entries-append : (us vs : List Update) → map time_entry (us ++ vs) ≡ map tim
 entries-append [] vs = refl
 entries-append (u ∷ us) vs = λ i. time_entry u ∷ entries-append us vs i
 
+-- what comes past g is in no part up to g
+pub between-more : (us more : List Update) (f g : Option ℕ) → OutOf g more → between f g (us ++ more) ≡ between f g us
+between-more us more f g out = between-append f g us more ∙ ap (λ l. between f g us ++ l) (none_there f g more out.all) ∙ append-nil_updates (between f g us)
+
 -- a slice up to g, and then, when more has come past g, one from g on, are one slice
 pub slices_join : (us more : List Update) (f g h : Option ℕ) → is_gt (frontier_cmp f g) ≡ false → is_gt (frontier_cmp g h) ≡ false → OutOf g more
     → slice_of us f g ++ slice_of (us ++ more) g h ≡ slice_of (us ++ more) f h
@@ -186,7 +191,7 @@ slices_join us more f g h fg gh out =
     let es = map time_entry (between f g us) in
     let fs = map time_entry (between g h all) in
     let gs = map time_entry (between f h all) in
-    let same_first : between f g all ≡ between f g us = between-append f g us more ∙ ap (λ l. between f g us ++ l) (none_there f g more out.all) ∙ append-nil_updates (between f g us) in
+    let same_first = between-more us more f g out in
     let sums : (k : ℕ × List ℕ) → total time_cmp gs k ≡ total time_cmp es k +ℤ total time_cmp fs k = λ k.
     total-filter_parts time_cmp time_entry (λ u. is_from f u.time && covers g u.time) (λ u. is_from g u.time && covers h u.time) (λ u. is_from f u.time && covers h u.time)
     (λ u. parts_of (is_from f u.time) (covers g u.time) (covers h u.time) (is_from g u.time) (apart g u.time) (covered_on g h u.time gh) (from_before f g u.time fg))

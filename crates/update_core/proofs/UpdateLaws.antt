@@ -24,7 +24,7 @@ moments_total = then_total (on_total (λ (m : List ℕ × ℕ). m.0) nat_list_cm
 pub moments_exact : CmpEqualImpliesEq moment_cmp
 moments_exact = exact_pairs (slice_cmp nat_cmp) nat_cmp exact_bytes exact_unsigned
 
-entries_back : (es : List ((List ℕ × ℕ) × ℤ)) → map moment_entry (map update_at es) ≡ es
+pub entries_back : (es : List ((List ℕ × ℕ) × ℤ)) → map moment_entry (map update_at es) ≡ es
 entries_back [] = refl
 entries_back (e ∷ es) = λ i. e ∷ entries_back es i
 
@@ -36,7 +36,7 @@ rows_back : (rs : List Row) → map row_at (map row_entry rs) ≡ rs
 rows_back [] = refl
 rows_back (r ∷ rs) = λ i. r ∷ rows_back rs i
 
-entries-append : (us vs : List Update) → map moment_entry (us ++ vs) ≡ map moment_entry us ++ map moment_entry vs
+pub entries-append : (us vs : List Update) → map moment_entry (us ++ vs) ≡ map moment_entry us ++ map moment_entry vs
 entries-append [] vs = refl
 entries-append (u ∷ us) vs = λ i. moment_entry u ∷ entries-append us vs i
 
@@ -67,7 +67,7 @@ picked true false e u v us vs p q r = cc
 picked false true e u v us vs p q r = cc
 picked false false e u v us vs p q r = r
 
-until-moved : (us : List Update) (s t : ℕ) → s ≤ t → map datum_entry (until t (moved us s)) ≡ map datum_entry (until t us)
+pub until-moved : (us : List Update) (s t : ℕ) → s ≤ t → map datum_entry (until t (moved us s)) ≡ map datum_entry (until t us)
 until-moved [] s t h = refl
 until-moved (u ∷ us) s t h = picked (nat_le (max u.time s) t) (nat_le u.time t) (datum_entry u) (moved_by s u) u (until t (moved us s)) (until t us) (same_test u.time s t h) refl (until-moved us s t h)
 

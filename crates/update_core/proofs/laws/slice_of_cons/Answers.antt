@@ -1,0 +1,5 @@
+use Rattle.update_core.proofs.TallyLaws as laws
+use Rattle.update_core.proofs.laws.slice_of_cons.Goals as goal
+
+pub returns : goal.returns
+returns c = laws.slice_of-cons
