@@ -1,0 +1,55 @@
+// Byte strings in order.
+ghost use Rattle.std.specs.Prelude.{◌≡◌, [], ◌∷◌, ◌++◌, OnOk, OnErr};
+
+use crate::byte_strings::Bytes;
+use std::alloc::{AllocError, Global};
+use std::marker::Model;
+
+/// Byte strings in order.
+#[derive(Drop)]
+pub struct BytesList {
+    items: Vec<Bytes>,
+}
+
+impl Model for BytesList {
+    ghost use Rattle.std.specs.Prelude.{List, ℕ};
+
+    ghost Value = { List (List ℕ) };
+
+    ghost view = { λ l. l.items.items };
+}
+
+impl BytesList {
+    /// The empty list, which takes no memory.
+    pub fn new(alloc: Global) -> BytesList
+        ensures { result ≡ [] }
+    {
+        BytesList {
+            items: Vec::new(alloc),
+        }
+    }
+
+    /// One more at the end. Where memory is refused the list is as it was.
+    pub fn push(&mut self, item: Bytes) -> Result<(), AllocError>
+        ensures ok { OnOk result (self.new ≡ self.old ++ item ∷ []) }
+        ensures err { OnErr result (self.new ≡ self.old) }
+    {
+        self.items.push(item)?;
+        Ok(())
+    }
+
+    /// The items in order.
+    pub fn as_slice(&self) -> &[Bytes]
+        ensures { result.now ≡ self.now }
+    {
+        &self.items
+    }
+
+    /// The items, which takes no memory.
+    pub(crate) fn into_items(self) -> Vec<Bytes>
+        ensures { result.items ≡ self }
+    {
+        let BytesList { items } = self;
+        items
+    }
+}

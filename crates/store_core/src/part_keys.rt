@@ -1,0 +1,11 @@
+// Keys of blobs.
+use crate::shards::ShardId;
+
+/// The key of a blob: keys are ordered by shard, member, token and index.
+#[derive(Clone, Copy, Debug, PartialEq, Eq, PartialOrd, Ord)]
+pub struct PartKey {
+    pub shard: ShardId,
+    pub member: u64,
+    pub token: u64,
+    pub index: u64,
+}

@@ -1,0 +1,98 @@
+// What a store in memory starts with.
+ghost use Rattle.std.specs.Prelude.{◌≡◌, ◌<◌, ◌≤◌, ◌+◌, ◌^◌, map, length, IfOk, OnOk};
+ghost use Rattle.std.specs.List.{AllByRecursion};
+ghost use Rattle.std.specs.Map.{keys_of, update_all};
+ghost use Rattle.std.specs.BTreeMap.{get};
+ghost use Rattle.store_core.specs.Stores.{key_cmp, shard_cmp};
+ghost use Rattle.store_core.specs.Starting.{CanStart, NoneTwice, log_entry, same_key, same_shard, shards_of, starting_store};
+ghost use Rattle.store_core.specs.Contents.{stored_of};
+
+use crate::blob_lists::BlobList;
+use crate::byte_lists::BytesList;
+use crate::byte_strings::Bytes;
+use crate::contents::{Contents, set_blob, set_log};
+use crate::part_keys::PartKey;
+use crate::shard_lists::ShardList;
+use crate::shard_logs::ShardLog;
+use crate::shards::ShardId;
+use std::alloc::{AllocError, Global};
+use std::collections::{BTreeMap, VecDeque};
+
+/// The same contents twice.
+#[derive(Drop)]
+pub struct Twice {
+    pub first: Contents,
+    pub second: Contents,
+}
+
+fn fill_blobs(
+    first: &mut BTreeMap<PartKey, Bytes>,
+    second: &mut BTreeMap<PartKey, Bytes>,
+    blobs: VecDeque<(PartKey, Bytes)>,
+) -> Result<(), AllocError>
+    ensures first { OnOk result (get key_cmp first.new ≡ update_all same_key (get key_cmp first.old) blobs.items) }
+    ensures second { OnOk result (get key_cmp second.new ≡ update_all same_key (get key_cmp second.old) blobs.items) }
+{
+    let mut rest = blobs;
+    while let Some((key, bytes)) = rest.pop_front() {
+        set_blob(first, key, &bytes)?;
+        set_blob(second, key, &bytes)?;
+    }
+    Ok(())
+}
+
+fn log_of(first: u64, versions: BytesList) -> ShardLog
+    requires some { 0 < length versions }
+    requires fits { first + length versions ≤ 2 ^ 64 }
+    ensures { result ≡ record { first = first; versions = versions } }
+{
+    ShardLog::starting(first, VecDeque::from(versions.into_items()))
+}
+
+fn fill_logs(
+    alloc: Global,
+    first: &mut BTreeMap<ShardId, ShardLog>,
+    second: &mut BTreeMap<ShardId, ShardLog>,
+    shards: VecDeque<(ShardId, u64, BytesList)>,
+) -> Result<(), AllocError>
+    requires { AllByRecursion CanStart shards.items }
+    ensures first { OnOk result (get shard_cmp first.new ≡ update_all same_shard (get shard_cmp first.old) (map log_entry shards.items)) }
+    ensures second { OnOk result (get shard_cmp second.new ≡ update_all same_shard (get shard_cmp second.old) (map log_entry shards.items)) }
+{
+    let mut rest = shards;
+    while let Some((shard, number, versions)) = rest.pop_front() {
+        let log = log_of(number, versions);
+        let copy = log.copy(alloc)?;
+        set_log(first, shard, copy)?;
+        set_log(second, shard, log)?;
+    }
+    Ok(())
+}
+
+/// Contents with these blobs and shards, twice.
+pub fn starting_twice(
+    alloc: Global,
+    blobs: BlobList,
+    shards: ShardList,
+) -> Result<Twice, AllocError>
+    requires keys { NoneTwice same_key (keys_of blobs) }
+    requires shards { NoneTwice same_shard (shards_of shards) }
+    requires versions { AllByRecursion CanStart shards }
+    ensures first { IfOk result (λ made. stored_of made.first ≡ starting_store blobs shards) }
+    ensures second { IfOk result (λ made. stored_of made.second ≡ starting_store blobs shards) }
+{
+    let mut first = Contents::new(alloc);
+    let mut second = Contents::new(alloc);
+    fill_blobs(
+        &mut first.blobs,
+        &mut second.blobs,
+        VecDeque::from(blobs.into_items()),
+    )?;
+    fill_logs(
+        alloc,
+        &mut first.logs,
+        &mut second.logs,
+        VecDeque::from(shards.into_items()),
+    )?;
+    Ok(Twice { first, second })
+}
