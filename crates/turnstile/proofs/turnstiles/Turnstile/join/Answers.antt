@@ -39,7 +39,7 @@ returns-clause-pass g c =
     let k = r.carried in
     let is : c.load-pass.new.seat.me ≡ (both_of v w, []) = c.load-pass.ensures.2.0 ∙ (c.join_seat.ensures.2 ∙ ap (λ cs. (both_of v w, cs)) r.empty) in
     let credited : Credited g.V.Growing.client (both_of v w) = subst (λ (m : Me (Option g.row.V.Denot) (View g.row.V-Begin.Denot g.row.V-Item.Denot)). Credited g.V.Growing.client m.0) c.join_seat.ensures.2 c.load-pass.ensures.2.2 in
-    as_pass g.V.Growing.told g.V.Growing.client _ _ (both_of v w) (c.load-pass.ensures.0 ∙ (c.join_seat.ensures.0 ∙ r.table)) is r.free r.start (let a = r.room in omega arith)
+    as_pass g.V.Growing.told g.V.Growing.client c.args.self.now _ (both_of v w) (c.load-pass.ensures.0 ∙ (c.join_seat.ensures.0 ∙ r.table)) is r.free r.start (let a = r.room in omega arith)
     (let a = times_append v.number v.kin w.kin in let b = r.own in omega arith) credited
     record {
       number = k.number;

@@ -36,7 +36,7 @@ returns-clause-pass g c =
     let is : c.split_seat-place.new.seat.me ≡ (left_of v, []) = c.split_seat-place.ensures.2 ∙ ap (λ cs. (left_of v, cs)) r.empty in
     let half = upper_half v in
     let half_is : upper_half v ≡ (v.stock - 1) / 2 = refl in
-    as_pass g.V.Growing.told g.V.Growing.client _ _ (left_of v) (c.split_seat-place.ensures.0 ∙ r.table) is r.free r.start (let a = r.room in omega arith) r.own r.credited
+    as_pass g.V.Growing.told g.V.Growing.client c.args.self.now _ (left_of v) (c.split_seat-place.ensures.0 ∙ r.table) is r.free r.start (let a = r.room in omega arith) r.own r.credited
     record {
       number = k.number;
       stock = ap (λ (n : ℕ). n - 1 - (n - 1) / 2) k.stock;
@@ -55,7 +55,7 @@ returns-clause-made g c =
     let half_is : upper_half v ≡ (v.stock - 1) / 2 = refl in
     let is : c.load.new.seat.me ≡ (right_of v, []) = c.load.ensures.2.0 ∙ c.split_seat-place.ensures.4 in
     let credited : Credited g.V.Growing.client (right_of v) = subst (λ (m : Me (Option g.row.V.Denot) (View g.row.V-Begin.Denot g.row.V-Item.Denot)). Credited g.V.Growing.client m.0) c.split_seat-place.ensures.4 c.load.ensures.2.2 in
-    as_pass g.V.Growing.told g.V.Growing.client _ _ (right_of v) (c.load.ensures.0 ∙ (c.split_seat-place.ensures.3 ∙ r.table)) is refl r.start (omega arith) (let e : once (eqb v.low v.low) ≡ 1 = ap once (eq-eqb v.low v.low refl) in omega arith) credited
+    as_pass g.V.Growing.told g.V.Growing.client c.args.self.now _ (right_of v) (c.load.ensures.0 ∙ (c.split_seat-place.ensures.3 ∙ r.table)) is refl r.start (omega arith) (let e : once (eqb v.low v.low) ≡ 1 = ap once (eq-eqb v.low v.low refl) in omega arith) credited
     record {
       number = k.low some_stock;
       stock = ap (λ (n : ℕ). (n - 1) / 2) k.stock;

@@ -19,7 +19,7 @@ returns-then-found-ne0-clause-missed g c =
     let r = c.requires in
     let missed_it = c.compare_exchange-found.ensures.2.1 c.if-found-ne0.true in
     let is : c.compare_exchange-found.new.seat.me ≡ (missed (view p), []) = missed_it.1 ∙ ap (λ cs. (missed (view p), cs)) r.empty in (
-      as_pass g.V.Growing.told g.V.Growing.client _ _ (missed (view p)) (c.compare_exchange-found.ensures.0 ∙ r.table) is r.free r.start r.room r.own r.credited
+      as_pass g.V.Growing.told g.V.Growing.client c.args.self.now _ (missed (view p)) (c.compare_exchange-found.ensures.0 ∙ r.table) is r.free r.start r.room r.own r.credited
           record { number = r.carried.number; stock = r.carried.stock; low = r.carried.low; top = r.carried.top; count = r.carried.count },
       ap (λ m. m.0) is,
     )
