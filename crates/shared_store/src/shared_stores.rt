@@ -14,6 +14,7 @@ use store_core::Store;
 use turnstile::{Pass, SplitFault, Turnstile};
 
 /// A store that threads call in turns. They share its turnstile, and each makes a port of its own at it.
+#[derive(Drop)]
 pub struct SharedStore<S: Store> {
     pub turnstile: Turnstile<CountedStore<S>>,
 }
