@@ -1,0 +1,4 @@
+pub mod Trails
+pub mod Fronts
+pub mod Passes
+pub mod Owners
