@@ -21,12 +21,14 @@ pub fn batch_stays()
 
 /// Two batches of which the second is from the upper of the first on come to the one of both spans.
 pub fn batches_merge()
-    ensures { (us : List Update) (left right merged : Desc) → Merges left right merged → cons (moved (batch_of us left ++ batch_of us right) merged.since) ≡ batch_of us merged }
+    ensures { (us : List Update) (left right merged : Desc) → Merges left right merged
+        → cons (moved (batch_of us left ++ batch_of us right) merged.since) ≡ batch_of us merged }
 {}
 
 /// The batches of a spine have the content of the collection at each time from their sinces on that their upper covers.
 pub fn spine_content()
-    ensures { (us : List Update) (bs : List Batch) (t : ℕ) → IsSpine bs → IsMovedUpTo t bs → covers (spine_upper bs) t ≡ true → sum_of (held us bs) t ≡ sum_of us t }
+    ensures { (us : List Update) (bs : List Batch) (t : ℕ) → IsSpine bs → IsMovedUpTo t bs → covers (spine_upper bs) t ≡ true
+        → sum_of (held us bs) t ≡ sum_of us t }
 {}
 
 /// A push moves a spine's upper to that of the batch.
@@ -36,5 +38,6 @@ pub fn upper_of_push()
 
 /// A replacement leaves a spine's upper.
 pub fn upper_of_replace()
-    ensures { (left right merged : Batch) (old new : List Batch) → merged.desc.upper ≡ right.desc.upper → Replaced left right merged old new → spine_upper new ≡ spine_upper old }
+    ensures { (left right merged : Batch) (old new : List Batch) → merged.desc.upper ≡ right.desc.upper → Replaced left right merged old new
+        → spine_upper new ≡ spine_upper old }
 {}

@@ -151,7 +151,8 @@ impl Spine {
         requires { covers batch.desc.upper batch.desc.lower ≡ true }
         ensures ok { OnOk result (self.new ≡ self.old ++ batch ∷ []) }
         ensures next { OnOk result (is_at (spine_upper self.old) batch.desc.lower ≡ true) }
-        ensures fault { IfErr result (λ fault. ((fault ≡ SpineFault.Memory) × (is_at (spine_upper self.old) batch.desc.lower ≡ true))
+        ensures fault { IfErr result (λ fault.
+            ((fault ≡ SpineFault.Memory) × (is_at (spine_upper self.old) batch.desc.lower ≡ true))
             ⊎ ((fault ≡ SpineFault.NotNext (spine_upper self.old)) × (is_at (spine_upper self.old) batch.desc.lower ≡ false))) }
         ensures unchanged { OnErr result (self.new ≡ self.old) }
     {

@@ -34,18 +34,21 @@ frontier_cmp None (Some b) = Greater
 frontier_cmp (Some a) None = Less
 frontier_cmp (Some a) (Some b) = nat_cmp a b
 
+-- the same time, or both Closed
 abbrev pub frontier_eq : Option ℕ → Option ℕ → Bool
 frontier_eq None None = true
 frontier_eq None (Some b) = false
 frontier_eq (Some a) None = false
 frontier_eq (Some a) (Some b) = a == b
 
+-- two frontiers are equal where neither is before the other
 pub frontier_ties : (x y : Option ℕ) → frontier_eq x y ≡ eq_by_cmp frontier_cmp x y
 frontier_ties None None = refl
 frontier_ties None (Some b) = refl
 frontier_ties (Some a) None = refl
 frontier_ties (Some a) (Some b) = sym (unsigned_tied a b)
 
+-- frontiers are in one order
 pub frontier_total : IsTotalOrder frontier_cmp
 frontier_total = record { antisymm = turned; trans = chained; congr = alike }
   where
@@ -70,5 +73,6 @@ frontier_total = record { antisymm = turned; trans = chained; congr = alike }
     alike (Some a) (Some b) None p = refl
     alike (Some a) (Some b) (Some c) p = nat_cmp_total.congr a b c p
 
+-- to be the same frontier is an equivalence
 pub frontier_equiv : IsEquivalence frontier_eq
 frontier_equiv = subst (λ (e : Option ℕ → Option ℕ → Bool). IsEquivalence e) (λ i x y. sym (frontier_ties x y) i) (eq_by_cmp_equiv frontier_total)

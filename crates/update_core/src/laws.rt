@@ -63,5 +63,6 @@ pub fn slice_of_cons()
 
 /// The updates that a frontier covers have the content of all at each time that it covers.
 pub fn sum_of_covered()
-    ensures { (us : List Update) (g : Option ℕ) (t : ℕ) → covers g t ≡ true → sum_of (between (Some 0) g us) t ≡ sum_of us t }
+    ensures { (us : List Update) (g : Option ℕ) (t : ℕ) → covers g t ≡ true
+        → sum_of (between (Some 0) g us) t ≡ sum_of us t }
 {}
