@@ -56,30 +56,44 @@ module _ {B I : Type 0} where
   abbrev pub first_view : Option (B × List I) → View B I
   first_view start = record { number = 0; low = 1; stock = 2 ^ 64 - 1; share = 2 ^ 64; kin = (0, []) ∷ []; start = start; gain = []; beside = []; turn = 0; misses = 0; looked = 0 }
 
-  -- a standing pass, where since is the history past the opening
+  -- A standing pass, where start is what the value told at the beginning, and since the history past that:
   pub record Stands (client : I → ℕ) (start : Option (B × List I)) (since : List I) (v : View B I) : Type 0 where
+    -- it knows what the value told
     pub same : v.start ≡ start
+    -- what it has seen is the beginning of the history, and all of it while it has the turn
     pub begins : IsPrefix v.gain since
     pub short : IsPrefix v.beside since
     pub holder : 0 < v.turn → v.gain ≡ since
+    -- it answers for its own number
     pub own : 0 < times v.number v.kin
+    -- its share has a part for each number of its stock and one for itself, and 0 is in no stock
     pub room : v.stock < v.share
     pub above : 0 < v.low
+    -- it has seen each entry of the numbers that it answers for
     pub kin_all : Each (λ n es. entries_by client n since ≡ es) v.kin
     pub kin_seen : Each (λ n es. entries_by client n v.gain ≡ es) v.kin
 
 -- Between any two steps, where told is what a value tells, and start what it told at the beginning:
 pub record Turning {V B I : Type 0} (told : V → Option (B × List I)) (client : I → ℕ) (start : Option (B × List I)) (s : State (Option V) (View B I)) : Type 0 where
+  -- the two words are the turn and the count, and the history has grown by since
   pub turn : ℕ
   pub count : ℕ
   pub since : List I
   pub words : s.words ≡ turn ∷ count ∷ []
+  -- the turn is 1 exactly where one pass has it, and no two have it
   pub held : turn ≡ total turn_of s.views
   pub one : turn ≤ 1
+  -- the count is the length of the history, where that is told
   pub counted : IsTold start → count ≡ min (length (entries_of start ++ since)) (2 ^ 64 - 1)
+  -- where nobody has the turn, the value lies in the slot and tells the history
   pub home : turn ≡ 0 → (y : V) × (s.homes ≡ some (Some y) ∷ []) × (told y ≡ with_more start since)
+  -- each pass stands, or was joined away
   pub each : (j : ℕ) (v : View B I) → get_elem? s.views j ≡ some v → (v ≡ spent_view) ⊎ Stands client start since v
+  -- some standing pass has seen all
   pub whole : (j : ℕ) × (v : View B I) × (get_elem? s.views j ≡ some v) × (0 < v.share) × (v.gain ≡ since)
+  -- the numbers that passes answer for, and those in their stocks, are all different
   pub apart : (n : ℕ) → total (kin_times n) s.views + total (stocked n) s.views ≤ 1
+  -- each entry is of a number that some pass answers for
   pub covers : (n : ℕ) → total (kin_times n) s.views ≡ 0 → entries_by client n since ≡ []
+  -- the shares make 2 ^ 64
   pub shares : total share_of s.views ≡ 2 ^ 64

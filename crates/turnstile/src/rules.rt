@@ -6,7 +6,7 @@ use std::alloc::Global;
 use std::marker::PhantomData;
 use std::snapshot::Snapshot;
 
-// The rule holds between any two steps.
+/// The rule holds between any two steps.
 pub struct TurnRule<V> {
     value: PhantomData<V>,
 }
