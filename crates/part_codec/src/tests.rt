@@ -1,3 +1,5 @@
+ghost use Rattle.std.specs.Prelude.{◌<◌};
+
 use super::*;
 use std::alloc::Global;
 use std::test::Fail;
@@ -80,7 +82,7 @@ fn each_fault_has_its_place(rt: HostRuntime) -> Result<(), Fail> {
     ];
     for (bytes, name, place) in cases {
         let found = refusal(alloc, bytes);
-        assert!(rt; found.0 == name && found.1 == place, "{name} at {place}");
+        assert!(rt; found.0 == name && found.1 == place, "the fault at {place}");
     }
     Ok(())
 }
