@@ -90,3 +90,8 @@ fn is_sync<T: Sync>(_x: &T) {}
 pub fn shares_turnstile<S: Store + Send>(turnstile: &Turnstile<CountedStore<S>>) {
     is_sync(turnstile);
 }
+
+/// Threads may share it where the store may be sent.
+pub fn shares_store<S: Store + Send>(store: &SharedStore<S>) {
+    is_sync(store);
+}
