@@ -8,7 +8,8 @@ use std::snapshot::Snapshot;
 use store_core::{Call, Entry, Reply, Store};
 use turnstile::Growing;
 
-/// A store, and how many entries it has since it was taken in. It tells the store as it was then, and the entries since then, where the store tells its history.
+/// A store, and how many entries it has since it was taken in. It tells the store as it was then, and the entries since then,
+/// where the store tells its history.
 #[derive(Drop)]
 pub struct CountedStore<S: Store> {
     pub(crate) store: S,

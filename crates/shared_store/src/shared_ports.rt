@@ -78,10 +78,13 @@ impl<'a, S: Store> Port for SharedPort<'a, S> {
 
     ghost loan = { λ _. None };
 
-    /// One call of the store, in a turn of the port's pass; `Busy` exactly where the turn was found held. It waits for nobody, and fails only for want of memory.
+    /// One call of the store, in a turn of the port's pass; `Busy` exactly where the turn was found held.
+    /// It waits for nobody, and fails only for want of memory.
     fn try_call(&mut self, call: &Call) -> Result<Turn, AllocError>
-        ensures seen { IfOk result (λ turn. Sees self.old.known.number (front_of S.history self.old.known) (front_of S.history self.new.known) call.now turn) }
-        ensures memory { OnErr result (GrowsByOthers self.old.known.number (front_of S.history self.old.known) (front_of S.history self.new.known)) }
+        ensures seen { IfOk result (λ turn. Sees self.old.known.number
+            (front_of S.history self.old.known) (front_of S.history self.new.known) call.now turn) }
+        ensures memory { OnErr result (GrowsByOthers self.old.known.number
+            (front_of S.history self.old.known) (front_of S.history self.new.known)) }
         ensures client { self.new.known.number ≡ self.old.known.number }
         ensures shape { IfOk result (λ turn. IsTurnFor call.now turn) }
         ensures busy { result ≡ Ok Turn.Busy → self.old.known.misses < self.new.known.misses }

@@ -45,7 +45,8 @@ impl<S: Store> SharedStore<S> {
         SharedPort::at(&self.turnstile, pass)
     }
 
-    /// A new pass, which has seen what the old one has. `NumbersSpent` exactly where the old one has no number left to hand out; nothing changes then.
+    /// A new pass, which has seen what the old one has. `NumbersSpent` exactly where the old one has no number left to hand out;
+    /// nothing changes then.
     pub fn split(
         &self,
         pass: &mut Pass<CountedStore<S>>,
@@ -53,7 +54,8 @@ impl<S: Store> SharedStore<S> {
         requires { IsPassOfStore self.now pass.old }
         ensures pass { IsPassOfStore self.now pass.new }
         ensures made { IfOk result (λ made. IsPassOfStore self.now made) }
-        ensures ok { IfOk result (λ made. (0 < (view pass.old).stock) × (view pass.new ≡ left_of (view pass.old)) × (view made ≡ right_of (view pass.old))) }
+        ensures ok { IfOk result (λ made. (0 < (view pass.old).stock) × (view pass.new ≡ left_of (view pass.old))
+            × (view made ≡ right_of (view pass.old))) }
         ensures spent { IfErr result (λ _. ((view pass.old).stock ≡ 0) × (pass.new ≡ pass.old)) }
     {
         self.turnstile.split(pass)
@@ -66,13 +68,16 @@ impl<S: Store> SharedStore<S> {
         ensures pass { IsPassOfStore self.now pass.new }
         ensures views { view pass.new ≡ both_of (view pass.old) (view other) }
         ensures begins { IsPrefix (view pass.old).gain (view pass.new).gain × IsPrefix (view other).gain (view pass.new).gain }
-        ensures own { (n : ℕ) → 0 < times n (view pass.old).kin → entries_by entry_client n (view pass.new).gain ≡ entries_by entry_client n (view pass.old).gain }
-        ensures others { (n : ℕ) → 0 < times n (view other).kin → entries_by entry_client n (view pass.new).gain ≡ entries_by entry_client n (view other).gain }
+        ensures own { (n : ℕ) → 0 < times n (view pass.old).kin
+            → entries_by entry_client n (view pass.new).gain ≡ entries_by entry_client n (view pass.old).gain }
+        ensures others { (n : ℕ) → 0 < times n (view other).kin
+            → entries_by entry_client n (view pass.new).gain ≡ entries_by entry_client n (view other).gain }
     {
         self.turnstile.join(pass, other);
     }
 
-    /// The store, where the pass has every share. Its history is all that the pass has seen, and each entry since `new` is of a number that the pass answers for.
+    /// The store, where the pass has every share. Its history is all that the pass has seen, and each entry since `new` is of a number
+    /// that the pass answers for.
     pub fn close(self, pass: Pass<CountedStore<S>>) -> S
         requires pass { IsPassOfStore self pass }
         requires whole { (view pass).share ≡ 2 ^ 64 }

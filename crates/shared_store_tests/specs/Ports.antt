@@ -1,5 +1,5 @@
 -- Ports and passes that go on.
-use Rattle.std.specs.Prelude.{◌≡◌, Option, List}
+use Rattle.std.specs.Prelude.{◌≡◌}
 use Rattle.turnstile.specs.declared.passes.Pass.{Pass}
 use Rattle.turnstile.specs.declared.turnstiles.Turnstile.{Turnstile}
 use Rattle.turnstile.specs.Passes.{IsPassOf, view, table_of, first_value}

@@ -8,7 +8,8 @@ use Rattle.turnstile.specs.Plays.{Gains, seen}
 use Rattle.turnstile.specs.Passes.{first_value}
 
 -- the entries es are those that the value y gained in the turn of this seat, and count and now what it counted before and counts now
-pub record IsCounting {V B I : Type 0} (told : V → Option (B × List I)) (client : I → ℕ) (t : Turnstile V B I) (s : Seat (Option V) (View B I)) (y : V) (es : List I) (now count : ℕ) : Type 0 where
+pub record IsCounting {V B I : Type 0} (told : V → Option (B × List I)) (client : I → ℕ) (t : Turnstile V B I) (s : Seat (Option V) (View B I)) (y : V)
+    (es : List I) (now count : ℕ) : Type 0 where
   pub table : s.table_id ≡ t.board.shared.table_id
   pub share : 0 < s.me.0.share
   pub turn : s.me.0.turn ≡ 1

@@ -44,7 +44,19 @@ module _ {B I : Type 0} where
 
   -- the pass that a split made
   abbrev pub right_of : View B I → View B I
-  right_of v = record { number = v.low; low = v.low + 1 + (v.stock - 1 - upper_half v); stock = upper_half v; share = upper_half v + 1; kin = (v.low, []) ∷ []; start = v.start; gain = v.gain; beside = []; turn = 0; misses = 0; looked = 0 }
+  right_of v = record {
+    number = v.low;
+    low = v.low + 1 + (v.stock - 1 - upper_half v);
+    stock = upper_half v;
+    share = upper_half v + 1;
+    kin = (v.low, []) ∷ [];
+    start = v.start;
+    gain = v.gain;
+    beside = [];
+    turn = 0;
+    misses = 0;
+    looked = 0;
+  }
 
   -- a pass that took in another
   abbrev pub both_of : View B I → View B I → View B I
@@ -77,7 +89,8 @@ module _ {V B I : Type 0} (told : V → Option (B × List I)) (client : I → �
   -- where the turn was free the pass has it, with the value in hand, and has seen all that this tells; else it has missed it
   abbrev pub taken : Step (Option V) → Knows → ℕ → Knows → Type 0
   taken s m n w =
-      (n ≡ 0 → (y : V) × (w ≡ (record m.0 { gain = w.0.gain; turn = 1 }, (0, Some y) ∷ m.1)) × (told y ≡ with_more m.0.start w.0.gain) × IsPrefix m.0.gain w.0.gain × Credited client w.0)
+      (n ≡ 0 → (y : V) × (w ≡ (record m.0 { gain = w.0.gain; turn = 1 }, (0, Some y) ∷ m.1))
+      × (told y ≡ with_more m.0.start w.0.gain) × IsPrefix m.0.gain w.0.gain × Credited client w.0)
       × (n ≢ 0 → (n ≡ 1) × (w ≡ (record m.0 { misses = m.0.misses + 1 }, m.1)))
 
   -- the value tells these entries more than the view has seen, all of the pass's own number

@@ -54,7 +54,19 @@ module _ {B I : Type 0} where
 
   -- the view of the first pass
   abbrev pub first_view : Option (B × List I) → View B I
-  first_view start = record { number = 0; low = 1; stock = 2 ^ 64 - 1; share = 2 ^ 64; kin = (0, []) ∷ []; start = start; gain = []; beside = []; turn = 0; misses = 0; looked = 0 }
+  first_view start = record {
+    number = 0;
+    low = 1;
+    stock = 2 ^ 64 - 1;
+    share = 2 ^ 64;
+    kin = (0, []) ∷ [];
+    start = start;
+    gain = [];
+    beside = [];
+    turn = 0;
+    misses = 0;
+    looked = 0;
+  }
 
   -- A standing pass, where start is what the value told at the beginning, and since the history past that:
   pub record Stands (client : I → ℕ) (start : Option (B × List I)) (since : List I) (v : View B I) : Type 0 where
@@ -74,7 +86,8 @@ module _ {B I : Type 0} where
     pub kin_seen : Each (λ n es. entries_by client n v.gain ≡ es) v.kin
 
 -- Between any two steps, where told is what a value tells, and start what it told at the beginning:
-pub record Turning {V B I : Type 0} (told : V → Option (B × List I)) (client : I → ℕ) (start : Option (B × List I)) (s : State (Option V) (View B I)) : Type 0 where
+pub record Turning {V B I : Type 0} (told : V → Option (B × List I)) (client : I → ℕ) (start : Option (B × List I))
+    (s : State (Option V) (View B I)) : Type 0 where
   -- the two words are the turn and the count, and the history has grown by since
   pub turn : ℕ
   pub count : ℕ

@@ -17,7 +17,10 @@ pub(crate) fn count_up<V: Growing, G: Gained<V::Item>>(
     count: u64,
 )
     requires { IsCounting V.told V.client turnstile.now place.old value.now G.gained now count }
-    ensures { (place.new.table_id ≡ place.old.table_id) × (place.new.id ≡ place.old.id) × (place.new.me ≡ (grown place.old.me.0 G.gained, place.old.me.1)) × Credited V.client place.new.me.0 }
+    ensures table { place.new.table_id ≡ place.old.table_id }
+    ensures id { place.new.id ≡ place.old.id }
+    ensures me { place.new.me ≡ (grown place.old.me.0 G.gained, place.old.me.1) }
+    ensures credited { Credited V.client place.new.me.0 }
 {
     turnstile
         .board

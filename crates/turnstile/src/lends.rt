@@ -12,7 +12,8 @@ use crate::turns::Held;
 impl<V: Growing> Held<'_, V> {
     /// The value.
     pub fn value(&mut self) -> &mut V
-        ensures* writes_back { sem 𝓛 (follows (the_row (record { mir = named 1; lft = [] }) V.row V.Begin.row V.Item.row V.Growing) V.row self.entry.ghost_name result.ghost_name (with_value self.old)) }
+        ensures* writes_back { sem 𝓛 (follows (the_row (record { mir = named 1; lft = [] }) V.row V.Begin.row V.Item.row V.Growing) V.row
+            self.entry.ghost_name result.ghost_name (with_value self.old)) }
         ensures value { result.now ≡ held_value self.old }
     {
         &mut self.value

@@ -21,13 +21,14 @@ pub enum SplitFault {
 }
 
 impl<V: Growing> Turnstile<V> {
-    /// A new pass, which has seen what the old one has. Its number is the least of the old one's stock, and its stock the upper half, rounded down,
-    /// of the others. `NumbersSpent` exactly where the stock is empty; nothing changes then. It takes no memory.
+    /// A new pass, which has seen what the old one has. Its number is the least of the old one's stock, and its stock the upper half,
+    /// rounded down, of the others. `NumbersSpent` exactly where the stock is empty; nothing changes then. It takes no memory.
     pub fn split(&self, pass: &mut Pass<V>) -> Result<Pass<V>, SplitFault>
         requires { IsPassOf V.told V.client self.now pass.old }
         ensures pass { IsPassOf V.told V.client self.now pass.new }
         ensures made { IfOk result (λ made. IsPassOf V.told V.client self.now made) }
-        ensures ok { IfOk result (λ made. (0 < (view pass.old).stock) × (view pass.new ≡ left_of (view pass.old)) × (view made ≡ right_of (view pass.old))) }
+        ensures ok { IfOk result (λ made. (0 < (view pass.old).stock) × (view pass.new ≡ left_of (view pass.old))
+            × (view made ≡ right_of (view pass.old))) }
         ensures spent { IfErr result (λ _. ((view pass.old).stock ≡ 0) × (pass.new ≡ pass.old)) }
     {
         if pass.stock == 0 {
@@ -60,8 +61,10 @@ impl<V: Growing> Turnstile<V> {
         ensures begins { IsPrefix (view pass.old).gain (view pass.new).gain × IsPrefix (view other).gain (view pass.new).gain }
 
         // Of each number that either answers for, it has then seen what that one had.
-        ensures own { (n : ℕ) → 0 < times n (view pass.old).kin → entries_by V.client n (view pass.new).gain ≡ entries_by V.client n (view pass.old).gain }
-        ensures others { (n : ℕ) → 0 < times n (view other).kin → entries_by V.client n (view pass.new).gain ≡ entries_by V.client n (view other).gain }
+        ensures own { (n : ℕ) → 0 < times n (view pass.old).kin
+            → entries_by V.client n (view pass.new).gain ≡ entries_by V.client n (view pass.old).gain }
+        ensures others { (n : ℕ) → 0 < times n (view other).kin
+            → entries_by V.client n (view pass.new).gain ≡ entries_by V.client n (view other).gain }
     {
         let Pass {
             place,
@@ -75,8 +78,8 @@ impl<V: Growing> Turnstile<V> {
         pass.count = pass.count.max(count);
     }
 
-    /// The value, where the pass has every share, which is so once each pass that was split off has been joined. The pass has seen all that the value tells,
-    /// and each entry since the turnstile was made is of a number that the pass answers for.
+    /// The value, where the pass has every share, which is so once each pass that was split off has been joined. The pass has seen
+    /// all that the value tells, and each entry since the turnstile was made is of a number that the pass answers for.
     pub fn close(self, pass: Pass<V>) -> V
         requires pass { IsPassOf V.told V.client self pass }
         requires whole { (view pass).share ≡ 2 ^ 64 }

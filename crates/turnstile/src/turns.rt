@@ -35,7 +35,8 @@ impl<V: Growing> Held<'_, V> {
         requires held { IsHeld V.told V.client self }
         requires gains { (es : _) × Gains V.told V.client (held_view self) (held_value self) es }
         ensures pass { IsPassOf V.told V.client (held_from self.entry) result }
-        ensures gains { (es : _) × Gains V.told V.client (held_view self.entry) (held_value self.entry) es × (view result ≡ gave_back (held_view self.entry) es) }
+        ensures gains { (es : _) × Gains V.told V.client (held_view self.entry) (held_value self.entry) es
+            × (view result ≡ gave_back (held_view self.entry) es) }
     {
         let Held {
             turnstile,

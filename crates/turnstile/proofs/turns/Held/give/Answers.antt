@@ -35,7 +35,7 @@ store-requires g c =
     let id = c.exchange-empty.new.seat.id in
     let gs = gained_by told client (view p) y in
     let gains = regains told client (view p) y c.requires.gains.0 c.requires.gains.1 in
-    let up : c.count_up.new.place.me ≡ (grown (view p) gs, (0, None) ∷ []) = c.count_up.ensures.2 ∙ ap (λ cs. (grown (view p) gs, cs)) r.empty in
+    let up : c.count_up.new.place.me ≡ (grown (view p) gs, (0, None) ∷ []) = c.count_up.ensures.me ∙ ap (λ cs. (grown (view p) gs, cs)) r.empty in
     let is : c.exchange-empty.new.seat.me ≡ (grown (view p) gs, (0, Some y) ∷ []) = c.exchange-empty.ensures.3 ∙ ap (λ (m : Me (Option g.row.V.Denot) (View g.row.V-Begin.Denot g.row.V-Item.Denot)). (m.0, (0, Some y) ∷ rest m.1)) up in (
       search rules,
       search rules,
@@ -52,10 +52,10 @@ returns-clause-pass g c =
     let r = c.requires.held in
     let gs = gained_by told client (view p) y in
     let gains = regains told client (view p) y c.requires.gains.0 c.requires.gains.1 in
-    let up = c.count_up.ensures.2 in
+    let up = c.count_up.ensures.me in
     let is : c.exchange-empty.new.seat.me.0 ≡ grown (view p) gs = ap (λ m. m.0) c.exchange-empty.ensures.3 ∙ ap (λ m. m.0) up in
     let now : c.store.new.seat.me ≡ (gave_back (view p) gs, []) = c.store.ensures.2 ∙ ap (λ (v : View g.row.V-Begin.Denot g.row.V-Item.Denot). (let z : View g.row.V-Begin.Denot g.row.V-Item.Denot = record v { turn = 0 } in z, [])) is in
-    let credited : Credited client (grown (view p) gs) = subst (λ (m : Me (Option g.row.V.Denot) (View g.row.V-Begin.Denot g.row.V-Item.Denot)). Credited client m.0) up c.count_up.ensures.3 in
+    let credited : Credited client (grown (view p) gs) = subst (λ (m : Me (Option g.row.V.Denot) (View g.row.V-Begin.Denot g.row.V-Item.Denot)). Credited client m.0) up c.count_up.ensures.credited in
     let own : 0 < times (view p).number (credit (view p).number gs (view p).kin) = (let a = times_credit (view p).number (view p).number gs (view p).kin in let b = r.own in omega arith) in
     as_pass told client c.args.self.turnstile.now _ (gave_back (view p) gs) (search rules) now refl r.start r.room own credited
     record { number = r.carried.number; stock = r.carried.stock; low = r.carried.low; top = r.carried.top; count = counts_told (view p).start (told y) _ c.entries-now.result gains.0 c.entries-now.ensures }
@@ -68,4 +68,4 @@ returns-clause-gains g c =
     let y = c.args.self.value in
     let gs = gained_by told client (view p) y in
     let gains = regains told client (view p) y c.requires.gains.0 c.requires.gains.1 in
-    (gs, gains, ap (λ m. m.0) c.store.ensures.2 ∙ ap (λ (v : View g.row.V-Begin.Denot g.row.V-Item.Denot). let z : View g.row.V-Begin.Denot g.row.V-Item.Denot = record v { turn = 0 } in z) (ap (λ m. m.0) c.exchange-empty.ensures.3 ∙ ap (λ m. m.0) c.count_up.ensures.2))
+    (gs, gains, ap (λ m. m.0) c.store.ensures.2 ∙ ap (λ (v : View g.row.V-Begin.Denot g.row.V-Item.Denot). let z : View g.row.V-Begin.Denot g.row.V-Item.Denot = record v { turn = 0 } in z) (ap (λ m. m.0) c.exchange-empty.ensures.3 ∙ ap (λ m. m.0) c.count_up.ensures.me))
