@@ -143,3 +143,7 @@ all_again us part =
 pub is_found : (bytes : List ℕ) (r : Result (List Update) PartFault) → IsBytes bytes → Gives (λ rows. rows) r (all_of bytes) → IfOk r (λ rows. Part rows bytes)
 is_found bytes (Ok v) fits given = all_take bytes v fits given
 is_found bytes (Err e) fits given = tt
+
+-- the same bytes have one list of rows
+pub one_reading : (rows others : List Update) (bytes : List ℕ) → Part rows bytes → Part others bytes → rows ≡ others
+one_reading rows others bytes a b = ok_is rows others (sym (all_again rows a.0) ∙ ap all_of (sym a.1 ∙ b.1) ∙ all_again others b.0)

@@ -3,6 +3,7 @@
 
 mod decoding;
 mod encoding;
+pub mod laws;
 mod part_faults;
 
 pub use decoding::decode_part;

@@ -1,4 +1,4 @@
-use Rattle.std.proofs.Common.{◌≡◌, ◌<◌, ◌≤◌, ◌^◌, ◌++◌, ℤ, FitsSigned, ap, ◌∙◌, arith}
+use Rattle.std.proofs.Common.{◌≡◌, ◌++◌, ℤ, FitsSigned, ap, ◌∙◌, arith}
 use Rattle.std.specs.Int.{w64, to_be_bytes, cast_unsigned}
 use Rattle.std.proofs.lemmas.Int.{to_z-of_z}
 use Rattle.part_codec.specs.Parts.{row_bytes}
