@@ -22,6 +22,7 @@ impl<'a, S: Store> DirectPort<'a, S> {
         ensures client { ⟦<DirectPort<'a, S> as Port>⟧.client result ≡ client }
         ensures front { ⟦<DirectPort<'a, S> as Port>⟧.front result ≡ S.history store.old }
         ensures faults { ⟦<DirectPort<'a, S> as Port>⟧.faults result ≡ S.faults store.old }
+        ensures misses { ⟦<DirectPort<'a, S> as Port>⟧.misses result ≡ 0 }
         ensures store { result.store ≡ store.entry }
     {
         DirectPort { store, client }

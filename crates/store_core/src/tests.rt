@@ -155,3 +155,16 @@ fn a_port_passes_calls_on(rt: HostRuntime) -> Result<(), Fail> {
     assert!(rt; broken.failed == 2);
     Ok(())
 }
+
+#[test]
+fn lists_are_in_order(rt: HostRuntime) -> Result<(), Fail> {
+    let alloc = rt.alloc();
+    let faults = fault(alloc, true)?;
+    assert!(rt; faults.as_slice().len() == 1 && faults.as_slice()[0].took);
+    let blobs = one_blob(alloc, bytes(alloc, b"x")?)?;
+    assert!(rt; blobs.as_slice().len() == 1 && blobs.as_slice()[0].0 == KEY);
+    let shards = one_shard(alloc, bytes(alloc, b"v")?)?;
+    assert!(rt; shards.as_slice().len() == 1 && shards.as_slice()[0].0 == SHARD);
+    assert!(rt; shards.as_slice()[0].2.as_slice().len() == 1);
+    Ok(())
+}
