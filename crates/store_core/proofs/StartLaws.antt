@@ -1,5 +1,5 @@
 -- What a store starts with, in laws.
-use Rattle.std.proofs.Common.{◌≡◌, ◌+◌, ◌<◌, ℕ, Bool, None, arith, List, [], ◌∷◌, map, refl, sym, ap, subst}
+use Rattle.std.proofs.Common.{◌≡◌, ℕ, Bool, None, arith, List, [], ◌∷◌, map, refl, sym, ap, subst}
 use Rattle.std.specs.List.{IsDistinct}
 use Rattle.std.specs.Map.{keys_of, lookup, update_all}
 use Rattle.std.specs.Cmp.{IsTotalOrder}
