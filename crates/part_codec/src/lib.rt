@@ -1,0 +1,10 @@
+//! Parts as bytes: the one spelling of the rows of a part, and the reading of it.
+#![tactic(auto)]
+
+mod decoding;
+mod encoding;
+mod part_faults;
+
+pub use decoding::all_rows;
+pub use encoding::encode_part;
+pub use part_faults::PartFault;
