@@ -1,0 +1,5 @@
+pub mod Fields
+pub mod Loop
+pub mod Parts
+pub mod Rising
+pub mod Spelled

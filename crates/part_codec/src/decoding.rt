@@ -3,12 +3,11 @@ ghost use Rattle.std.specs.Prelude.{◌≡◌, List, length, IfOk, Ok, None};
 ghost use Rattle.std.specs.Int.{w32, w64};
 ghost use Rattle.store_core.specs.Stores.{last_of};
 ghost use Rattle.update_core.specs.declared.updates.Update.{Update as Row};
-ghost use Rattle.part_codec.specs.Parts.{IsPart, Part};
+ghost use Rattle.part_codec.specs.Parts.{Part};
 ghost use Rattle.part_codec.specs.Reading.{Gives, place, byte_at, number_at, magic, magic_at, form_at, count_at, length_at, datum_at, bits_at, fields_at, follows, row_at, rows_at, all_of};
 
 use crate::part_faults::PartFault;
 use std::alloc::Global;
-use std::cmp::Ordering;
 use update_core::{Datum, Update, UpdateList};
 
 // The letters PART.
@@ -168,7 +167,7 @@ fn may_follow(rows: &[Update], row: &Update) -> bool
                 .datum
                 .cmp(&row.datum)
                 .then(before.time.cmp(&row.time));
-            order == Ordering::Less
+            order.is_lt()
         }
     }
 }
@@ -211,7 +210,7 @@ fn next_rows(
 }
 
 #[tactic(auto, unfolding(crate::specs::Reading::all_of))]
-pub fn all_rows(alloc: Global, bytes: &[u8]) -> Result<UpdateList, PartFault>
+fn all_rows(alloc: Global, bytes: &[u8]) -> Result<UpdateList, PartFault>
     ensures { Gives (λ rows. rows) result (all_of bytes.now) }
 {
     let total = bytes.len();
@@ -225,4 +224,16 @@ pub fn all_rows(alloc: Global, bytes: &[u8]) -> Result<UpdateList, PartFault>
         });
     }
     Ok(rows)
+}
+
+/// The rows of the part with these bytes, all of the bytes. Else the first fault from the left, or `Memory`.
+pub fn decode_part(alloc: Global, bytes: &[u8]) -> Result<UpdateList, PartFault>
+    // What is read is a part.
+    ensures found { IfOk result (λ rows. Part rows bytes.now) }
+    // A part is read, unless memory runs out.
+    ensures only { (rows : List Row) → Part rows bytes.now → Gives (λ found. found) result (Ok rows) }
+    // Which fault it is, and where.
+    ensures exact { Gives (λ found. found) result (all_of bytes.now) }
+{
+    all_rows(alloc, bytes)
 }

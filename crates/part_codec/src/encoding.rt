@@ -1,10 +1,18 @@
 // Writing of parts.
 ghost use Rattle.std.specs.Prelude.{◌≡◌, ◌≤◌, ◌++◌, length, OnOk, IfOk};
+ghost use Rattle.std.specs.Int.{w64, cast_unsigned, to_be_bytes};
 ghost use Rattle.part_codec.specs.Parts.{row_bytes, spelling, NonZero, Part, Rising};
 
 use std::alloc::{AllocError, Global};
 use store_core::Bytes;
 use update_core::Update;
+
+fn put_diff(out: &mut Vec<u8>, diff: i64) -> Result<(), AllocError>
+    ensures { OnOk result (out.new.items ≡ out.old.items ++ to_be_bytes w64 (cast_unsigned w64 diff)) }
+{
+    out.extend_from_slice(&diff.to_be_bytes())?;
+    Ok(())
+}
 
 fn put_row(out: &mut Vec<u8>, row: &Update) -> Result<(), AllocError>
     ensures { OnOk result (out.new.items ≡ out.old.items ++ row_bytes row.now) }
@@ -13,7 +21,7 @@ fn put_row(out: &mut Vec<u8>, row: &Update) -> Result<(), AllocError>
     out.push(datum.len() as u8)?;
     out.extend_from_slice(datum)?;
     out.extend_from_slice(&row.time.to_be_bytes())?;
-    out.extend_from_slice(&row.diff.to_be_bytes())?;
+    put_diff(out, row.diff)?;
     Ok(())
 }
 

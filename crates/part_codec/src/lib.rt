@@ -5,6 +5,6 @@ mod decoding;
 mod encoding;
 mod part_faults;
 
-pub use decoding::all_rows;
+pub use decoding::decode_part;
 pub use encoding::encode_part;
 pub use part_faults::PartFault;
