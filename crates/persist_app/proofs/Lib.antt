@@ -1,2 +1,4 @@
 pub mod TextRead
 pub mod RunLaws
+pub mod TurnLaws
+pub mod PartLaws

@@ -1,2 +1,4 @@
 pub mod PlainRuns
+pub mod StoreTurns
+pub mod PartRuns
 pub mod Endings

@@ -4,6 +4,8 @@
 mod clocks;
 mod collections;
 mod endings;
+mod kept_appends;
+mod parts_faults;
 mod ends;
 mod plain;
 mod run_faults;
