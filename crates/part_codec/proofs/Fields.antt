@@ -1,7 +1,6 @@
 -- A field that is read is the field that was written, and what was written is read again.
 use Rattle.std.proofs.Common.{◌≡◌, ◌≢◌, ◌==◌, ℕ, suc, ◌+◌, ◌^◌, ◌<◌, ◌≤◌, Bool, true, false, cond, eqb, ltb, List, [], ◌∷◌, ◌++◌, length, get_or, take, drop, Result, Ok, Err, refl, sym, ap, subst, ◌∙◌, append_assoc, arith, inl, inr}
 use Rattle.std.specs.Int.{Width, w32, w64, byte_len, from_be_bytes, to_be_bytes}
-use Rattle.std.specs.List.{AllByRecursion}
 use Rattle.std.proofs.lemmas.Bool.{cases_lt, ltb-false, le-ltb, eqb-true}
 use Rattle.std.proofs.lemmas.Bool.Decides.{nat_tests}
 use Rattle.std.proofs.lemmas.List.{take_at, drop_at, take-append-drop, length-append, length-take, get_or-drop, get_or-take, get_or_past}
@@ -25,10 +24,6 @@ IsBytes-take n bytes h i =
 
 IsBytes-rest : (b : ℕ) (bytes : List ℕ) → IsBytes (b ∷ bytes) → IsBytes bytes
 IsBytes-rest b bytes h i = h (suc i)
-
-each_byte : (bytes : List ℕ) → IsBytes bytes → AllByRecursion (λ b. b < 256) bytes
-each_byte [] h = tt
-each_byte (b ∷ bytes) h = (h 0, each_byte bytes (IsBytes-rest b bytes h))
 
 -- the value of a step that did not fail
 pub bind_ok : {A B : Type 0} (r : Result A PartFault) (f : A → Result B PartFault) (y : B) → (r >>= f) ≡ Ok y → (x : A) × (r ≡ Ok x) × (f x ≡ Ok y)
@@ -164,7 +159,6 @@ module _ (total : ℕ) where
   pub record IsDatum (d : List ℕ) : Type 0 where
     pub some : 1 ≤ length d
     pub few : length d ≤ 255
-    pub bytes : AllByRecursion (λ b. b < 256) d
 
   pub datum_takes : (bytes : List ℕ) (x : List ℕ × List ℕ) → IsBytes bytes → datum_at total bytes ≡ Ok x → Takes bytes (length x.0 ∷ x.0) x.1 × IsDatum x.0
   unfolding datum_at
@@ -178,7 +172,7 @@ module _ (total : ℕ) where
       let second : Takes n.1 (take n.0 n.1) (drop n.0 n.1) = record { parts = sym (take-append-drop n.0 n.1); rest_fits = IsBytes-drop n.0 n.1 t.0.rest_fits } in
       let both = Takes-then bytes (n.0 ∷ []) n.1 (take n.0 n.1) (drop n.0 n.1) t.0 second in
       let whole : Takes bytes (length (take n.0 n.1) ∷ take n.0 n.1) (drop n.0 n.1) = subst (λ (k : ℕ). Takes bytes (k ∷ take n.0 n.1) (drop n.0 n.1)) (sym len) both in
-      let datum : IsDatum (take n.0 n.1) = record { some = omega (arith, t.2); few = omega (arith, t.1); bytes = each_byte (take n.0 n.1) (IsBytes-take n.0 n.1 t.0.rest_fits) } in
+      let datum : IsDatum (take n.0 n.1) = record { some = omega (arith, t.2); few = omega (arith, t.1) } in
       subst (λ (p : List ℕ × List ℕ). Takes bytes (length p.0 ∷ p.0) p.1 × IsDatum p.0) g.1 (whole, datum)
 
   pub datum_again : (d rest : List ℕ) → 1 ≤ length d → datum_at total (length d ∷ (d ++ rest)) ≡ Ok (d, rest)

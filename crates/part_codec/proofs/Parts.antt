@@ -52,7 +52,7 @@ module _ (total : ℕ) where
       let made : Update × List ℕ = (record { datum = a.0.0; time = b.0.0; diff = cast_signed w64 c.0.0 }, c.0.1) in
       let bits : cast_unsigned w64 (cast_signed w64 c.0.0) ≡ c.0.0 = of_z-to_z w64 c.0.0 t2.1 in
       let whole : Takes bytes (row_bytes made.0) made.1 = subst (λ (k : ℕ). Takes bytes (length a.0.0 ∷ (a.0.0 ++ (to_be_bytes w64 b.0.0 ++ to_be_bytes w64 k))) c.0.1) (sym bits) e02 in
-      let fit : Fits made.0 = record { some = t0.1.some; few = t0.1.few; bytes = t0.1.bytes; time = t1.1; diff = signed_fits c.0.0 t2.1 } in
+      let fit : Fits made.0 = record { some = t0.1.some; few = t0.1.few; time = t1.1; diff = signed_fits c.0.0 t2.1 } in
       subst (λ (y : Update × List ℕ). Takes bytes (row_bytes y.0) y.1 × Fits y.0 × (y.0.diff ≢ pos 0)) (ok_is made x c.2) (whole, fit, signed_some c.0.0 t2.1 t2.2)
 
   fields_again : (u : Update) (rest : List ℕ) → Fits u → u.diff ≢ pos 0 → fields_at total (row_bytes u ++ rest) ≡ Ok (u, rest)

@@ -25,13 +25,12 @@ Rising rows = IsStrictlySortedBy moment_cmp (moments rows)
 
 -- no difference is 0
 abbrev pub NonZero : List Update → Type 0
-NonZero rows = AllByRecursion (λ u. u.diff ≢ pos 0) rows
+NonZero rows = AllByRecursion (λ e. e.1 ≢ pos 0) (map moment_entry rows)
 
 -- the bounds of a datum, a time and a difference
 pub record Fits (u : Update) : Type 0 where
   pub some : 1 ≤ length u.datum
   pub few : length u.datum ≤ 255
-  pub bytes : AllByRecursion (λ b. b < 256) u.datum
   pub time : u.time < 2 ^ 64
   pub diff : FitsSigned w64 u.diff
 

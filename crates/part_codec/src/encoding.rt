@@ -1,7 +1,8 @@
 // Writing of parts.
 ghost use Rattle.std.specs.Prelude.{◌≡◌, ◌≤◌, ◌++◌, length, OnOk, IfOk};
 ghost use Rattle.std.specs.Int.{w64, cast_unsigned, to_be_bytes};
-ghost use Rattle.part_codec.specs.Parts.{row_bytes, spelling, NonZero, Part, Rising};
+ghost use Rattle.std.specs.List.{AllByRecursion};
+ghost use Rattle.part_codec.specs.Parts.{row_bytes, spelling, Fits, NonZero, Part, Rising};
 
 use std::alloc::{AllocError, Global};
 use store_core::Bytes;
@@ -15,7 +16,8 @@ fn put_diff(out: &mut Vec<u8>, diff: i64) -> Result<(), AllocError>
 }
 
 fn put_row(out: &mut Vec<u8>, row: &Update) -> Result<(), AllocError>
-    ensures { OnOk result (out.new.items ≡ out.old.items ++ row_bytes row.now) }
+    ensures written { OnOk result (out.new.items ≡ out.old.items ++ row_bytes row.now) }
+    ensures fits { OnOk result (Fits row.now) }
 {
     let datum = row.datum.bytes();
     out.push(datum.len() as u8)?;
@@ -27,7 +29,8 @@ fn put_row(out: &mut Vec<u8>, row: &Update) -> Result<(), AllocError>
 
 fn spelled(alloc: Global, rows: &[Update]) -> Result<Vec<u8>, AllocError>
     requires { length rows.now ≤ 4096 }
-    ensures { IfOk result (λ bytes. bytes.items ≡ spelling rows.now) }
+    ensures spelled { IfOk result (λ bytes. bytes.items ≡ spelling rows.now) }
+    ensures fit { OnOk result (AllByRecursion Fits rows.now) }
 {
     let mut out = Vec::new(alloc);
     out.extend_from_slice(b"PART\x01")?;
@@ -43,7 +46,7 @@ pub fn encode_part(alloc: Global, rows: &[Update]) -> Result<Bytes, AllocError>
     requires few { length rows.now ≤ 4096 }
     requires rising { Rising rows.now }
     requires nonzero { NonZero rows.now }
-    ensures { IfOk result (λ bytes. bytes ≡ spelling rows.now) }
+    ensures { IfOk result (λ bytes. Part rows.now bytes) }
 {
     let bytes = spelled(alloc, rows)?;
     Bytes::of(alloc, bytes)

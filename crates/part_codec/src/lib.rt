@@ -8,3 +8,6 @@ mod part_faults;
 pub use decoding::decode_part;
 pub use encoding::encode_part;
 pub use part_faults::PartFault;
+
+#[cfg(test)]
+mod tests;
