@@ -1,5 +1,5 @@
 -- Laws of collections in parts.
-use Rattle.std.proofs.Common.{◌≡◌, ◌≢◌, ℕ, zero, suc, ◌+◌, ◌-◌, ◌<◌, ◌≤◌, ◌^◌, Bool, true, false, cond, ℤ, Option, Some, None, List, [], ◌∷◌, ◌++◌, length, map, filter, refl, sym, ap, subst, ◌∙◌, append_assoc, arith}
+use Rattle.std.proofs.Common.{◌≡◌, ◌≢◌, ℕ, zero, suc, ◌+◌, ◌-◌, ◌<◌, ◌≤◌, ◌^◌, Bool, true, false, cond, ℤ, pos, ◌+ℤ◌, Option, Some, None, List, [], ◌∷◌, ◌++◌, length, map, filter, refl, sym, ap, subst, ◌∙◌, append_assoc, arith}
 use Rattle.std.specs.Prelude.{nat_le, nat_lt, not, ◌&&◌, position, length as len}
 use Rattle.std.specs.List.{AllByRecursion, position_from}
 use Rattle.std.specs.declared.cmp.Ordering.{Ordering}
@@ -9,6 +9,7 @@ use Rattle.std.specs.Int.RustNames.{unsigned_abs}
 use Rattle.std.proofs.lemmas.Bool.Decides.{nat_tests}
 use Rattle.std.proofs.lemmas.Cmp.{nat_cmp_total, tied_itself}
 use Rattle.std.proofs.lemmas.List.{append-nil}
+use Rattle.std.proofs.lemmas.List.Elements.{filter-append}
 use Rattle.std.proofs.lemmas.Map.Lookups.{exact_unsigned}
 use Rattle.std.proofs.lemmas.Iterator.Adapters.{position_from-zero}
 use Rattle.update_core.specs.declared.updates.Update.{Update}
@@ -16,7 +17,9 @@ use Rattle.update_core.specs.declared.appends.FeedAppend.{FeedAppend}
 use Rattle.update_core.specs.Frontiers.{covers}
 use Rattle.update_core.specs.Collections.{Collection, extended, empty_collection}
 use Rattle.update_core.specs.Totals.{added, consolidated}
-use Rattle.update_core.specs.Updates.{weight_of, until, cons, sum_of, moment_cmp, moment_entry, update_at}
+use Rattle.update_core.specs.declared.rows.Row.{Row}
+use Rattle.update_core.specs.Updates.{weight_of, until, cons, sum_of, moment_cmp, moment_entry, update_at, row_at, datum_entry}
+use Rattle.std.specs.Cmp.Lexicographic.{slice_cmp}
 use Rattle.update_core.proofs.WeightLaws.{weight_of-append, weight_of-cons}
 use Rattle.store_core.specs.declared.part_keys.PartKey.{PartKey}
 use Rattle.store_core.specs.Stores.{Stored, with_blob, set_at, key_cmp}
@@ -136,3 +139,125 @@ rows_of-push bs b done more e f = pushed bs ∙ ap (λ v. joined v (joined (part
     pushed : (xs : List (List ℕ)) → rows_of (xs ++ b ∷ []) ≡ joined (rows_of xs) (joined (part_of (Some b)) (Some []))
     pushed [] = sym (joined-nil (joined (part_of (Some b)) (Some [])))
     pushed (x ∷ xs) = ap (joined (part_of (Some x))) (pushed xs) ∙ again (part_of (Some x)) (rows_of xs) (joined (part_of (Some b)) (Some []))
+
+-- ---- the times of a consolidation
+
+unless : {K : Type 0} (P : K → Type 0) (b : Bool) (e : K × ℤ) (es : List (K × ℤ)) → P e.0 → AllByRecursion (λ (x : K × ℤ). P x.0) es → AllByRecursion (λ (x : K × ℤ). P x.0) (cond b es (e ∷ es))
+unless P true e es p all = all
+unless P false e es p all = (p, all)
+
+-- what holds of each key holds of the keys with one more
+added_keys : {K : Type 0} (P : K → Type 0) (R : K → K → Ordering) (k : K) (d : ℤ) (es : List (K × ℤ)) → P k → AllByRecursion (λ (e : K × ℤ). P e.0) es → AllByRecursion (λ (e : K × ℤ). P e.0) (added R k d es)
+added_keys P R k d [] p all = unless P (int_eq d (pos 0)) (k, d) [] p all
+added_keys {K} P R k d (e ∷ es) p all =
+    elim (R k e.0) as (λ r. AllByRecursion (λ (x : K × ℤ). P x.0) (match_ordering r (cond (int_eq d (pos 0)) (e ∷ es) ((k, d) ∷ e ∷ es)) (cond (int_eq (d +ℤ e.1) (pos 0)) es ((e.0, d +ℤ e.1) ∷ es)) (e ∷ added R k d es))) [
+      | Less ↦ unless P (int_eq d (pos 0)) (k, d) (e ∷ es) p all
+      | Equal ↦ unless P (int_eq (d +ℤ e.1) (pos 0)) (e.0, d +ℤ e.1) es all.0 all.1
+      | Greater ↦ (all.0, added_keys P R k d es p all.1)
+    ]
+
+consolidated_keys : {K : Type 0} (P : K → Type 0) (R : K → K → Ordering) (es : List (K × ℤ)) → AllByRecursion (λ (e : K × ℤ). P e.0) es → AllByRecursion (λ (e : K × ℤ). P e.0) (consolidated R es)
+unfolding consolidated
+consolidated_keys P R [] all = tt
+consolidated_keys P R (e ∷ es) all = added_keys P R e.0 e.1 (consolidated R es) all.0 (consolidated_keys P R es all.1)
+
+to_entries : (l : ℕ) (us : List Update) → AllByRecursion (λ u. l ≤ u.time) us → AllByRecursion (λ (e : (List ℕ × ℕ) × ℤ). l ≤ e.0.1) (map moment_entry us)
+to_entries l [] all = tt
+to_entries l (u ∷ us) all = (all.0, to_entries l us all.1)
+
+from_entries : (l : ℕ) (es : List ((List ℕ × ℕ) × ℤ)) → AllByRecursion (λ (e : (List ℕ × ℕ) × ℤ). l ≤ e.0.1) es → AllByRecursion (λ u. l ≤ u.time) (map update_at es)
+from_entries l [] all = tt
+from_entries l (e ∷ es) all = (all.0, from_entries l es all.1)
+
+-- the times of a consolidation are those of its rows
+pub cons_from : (l : ℕ) (us : List Update) → AllByRecursion (λ u. l ≤ u.time) us → AllByRecursion (λ u. l ≤ u.time) (cons us)
+cons_from l us all = from_entries l (consolidated moment_cmp (map moment_entry us)) (consolidated_keys (λ (k : List ℕ × ℕ). l ≤ k.1) moment_cmp (map moment_entry us) (to_entries l us all))
+
+-- rows in range are from the lower on
+inside : (a : FeedAppend) (u : Update) → is_outside a u ≡ false → a.lower ≤ u.time
+inside a u h = within (nat_le a.lower u.time) (covers a.upper u.time) refl h
+  where
+    within : (b c : Bool) → nat_le a.lower u.time ≡ b → not (b && c) ≡ false → a.lower ≤ u.time
+    within true c e h = grind (arith, nat_tests)
+    within false c e h = cc
+
+none_outside : (a : FeedAppend) (i : ℕ) (us : List Update) → position_from (is_outside a) i us ≡ None → AllByRecursion (λ u. a.lower ≤ u.time) us
+none_outside a i [] h = tt
+none_outside a i (u ∷ us) h = (inside a u (first (is_outside a u) h), none_outside a (i + 1) us (later (is_outside a u) h))
+  where
+    first : (b : Bool) → cond b (Some i) (position_from (is_outside a) (i + 1) us) ≡ None → b ≡ false
+    first true h = cc
+    first false h = refl
+
+    later : (b : Bool) → cond b (Some i) (position_from (is_outside a) (i + 1) us) ≡ None → position_from (is_outside a) (i + 1) us ≡ None
+    later true h = cc
+    later false h = h
+
+pub in_range : (a : FeedAppend) → position (is_outside a) a.rows ≡ None → AllByRecursion (λ u. a.lower ≤ u.time) a.rows
+in_range a h = none_outside a 0 a.rows (sym (position_from-zero (is_outside a) a.rows) ∙ h)
+
+-- ---- what a snapshot reads
+
+-- rows that tell all of a list up to t, and weigh no more
+pub record TellsUntil (t : ℕ) (us read : List Update) : Type 0 where
+  pub until : until t read ≡ until t us
+  pub light : weight_of read ≤ weight_of us
+
+-- rows from a time past t on tell nothing up to t
+none_until : (t l : ℕ) (us : List Update) → nat_le l t ≡ false → AllByRecursion (λ u. l ≤ u.time) us → until t us ≡ []
+none_until t l [] past all = refl
+none_until t l (u ∷ us) past all = ap (λ b. cond b (u ∷ until t us) (until t us)) after ∙ none_until t l us past all.1
+  where
+    after : nat_le u.time t ≡ false
+    after = grind (arith, nat_tests)
+
+tells_both : (t : ℕ) (first rest read us : List Update) → us ≡ first ++ rest → TellsUntil t rest read → TellsUntil t us (first ++ read)
+tells_both t first rest read us e tells = record {
+  until = filter-append (λ u. nat_le u.time t) first read ∙ ap (λ v. until t first ++ v) tells.until ∙ sym (filter-append (λ u. nat_le u.time t) first rest) ∙ ap (until t) (sym e);
+  light = omega (arith, weight_of-append first read, weight_of-append first rest, tells.light, ap weight_of e);
+}
+
+tells_later : (t l : ℕ) (first rest read us : List Update) → nat_le l t ≡ false → AllByRecursion (λ u. l ≤ u.time) first → us ≡ first ++ rest → TellsUntil t rest read → TellsUntil t us read
+tells_later t l first rest read us past from e tells = record {
+  until = tells.until ∙ ap (λ v. v ++ until t rest) (sym (none_until t l first past from)) ∙ sym (filter-append (λ u. nat_le u.time t) first rest) ∙ ap (until t) (sym e);
+  light = omega (arith, weight_of-append first rest, tells.light, ap weight_of e);
+}
+
+abbrev ReadsEnough : ℕ → List Update → Option (List Update) → Type 0
+ReadsEnough t us wanted = (read : List Update) × (wanted ≡ Some read) × TellsUntil t us read
+
+one_read_more : (t l : ℕ) (first rest us : List Update) (p w : Option (List Update)) (b : Bool) → nat_le l t ≡ b → p ≡ Some first → AllByRecursion (λ u. l ≤ u.time) first → us ≡ first ++ rest → ReadsEnough t rest w → ReadsEnough t us (joined (cond b p (Some [])) w)
+one_read_more t l first rest us p w true past here from e more = (first ++ more.0, ap (λ v. joined v w) here ∙ ap (joined (Some first)) more.1, tells_both t first rest more.0 us e more.2)
+one_read_more t l first rest us p w false past here from e more = (more.0, joined-nil w ∙ more.1, tells_later t l first rest more.0 us past from e more.2)
+
+-- the appends whose lower isn't above t tell all up to t
+pub reads_enough : (t : ℕ) (s : Stored) (a : ℕ) (ks : List KeptAppend) (us : List Update) → HoldsAll s a ks us → ReadsEnough t us (rows_until t s a ks)
+reads_enough t s a [] us h = ([], refl, record { until = ap (until t) (sym h); light = omega (arith, ap weight_of h) })
+reads_enough t s a (k ∷ ks) us h =
+    one_read_more t k.lower h.0 h.1 us (append_rows s a k) (rows_until t s (a + 1) ks) (nat_le k.lower t) refl h.3.parts h.3.from h.2 (reads_enough t s (a + 1) ks h.1 h.4)
+
+pub same_sum : (t : ℕ) (us read : List Update) → TellsUntil t us read → sum_of read t ≡ sum_of us t
+same_sum t us read tells = ap sum tells.until
+  where
+    sum : List Update → List Row
+    sum vs = map row_at (consolidated (slice_cmp nat_cmp) (map datum_entry vs))
+
+-- ---- standing for a collection
+
+pub empty_stands : (s : Stored) → Stands s nothing_kept empty_collection
+empty_stands s = record { rows = refl; since = refl; upper = refl; weight = refl; light = omega arith }
+
+-- an append whose parts are set
+pub append_stands : (s : Stored) (k now : Keeping) (c : Collection) (l token : ℕ) (rows : List Update) (bs : List (List ℕ)) (upper : Option ℕ) (weight : ℕ) → Stands s k c → rows_of bs ≡ Some (cons rows) → AllByRecursion (λ u. l ≤ u.time) rows
+    → token ≡ length k.appends + 1 → weight ≡ weight_of rows → now ≡ record { appends = k.appends ++ record { lower = l; parts = length bs } ∷ []; since = k.since; upper = upper; weight = k.weight + weight }
+    → Stands (with_parts s token 0 bs) now (extended c rows upper weight)
+append_stands s k now c l token rows bs upper weight stands bytes from number weighs is =
+    subst (λ v. Stands (with_parts s token 0 bs) v (extended c rows upper weight)) (sym is) (record {
+      rows = holds_one_more (with_parts s token 0 bs) 1 token k.appends c.updates (record { lower = l; parts = length bs }) (cons rows) (omega arith)
+          (holds_elsewhere s (with_parts s token 0 bs) 1 k.appends c.updates (λ b j lt. set_elsewhere s token 0 bs b j (omega arith)) stands.rows)
+          (record { parts = parts_set s token 0 bs ∙ bytes; from = cons_from l rows from });
+      since = stands.since;
+      upper = refl;
+      weight = ap (λ n. n + weight) stands.weight;
+      light = omega (arith, weight_of-append c.updates (cons rows), weight_of-cons rows, stands.light);
+    })
