@@ -2,3 +2,5 @@ pub mod TextRead
 pub mod RunLaws
 pub mod TurnLaws
 pub mod PartLaws
+pub mod ReadLaws
+pub mod EncodeLaws

@@ -1,10 +1,14 @@
 -- A collection whose accepted appends lie in a store, in parts.
-use Rattle.std.specs.Prelude.{◌≡◌, ℕ, zero, suc, ◌+◌, ◌≤◌, nat_le, Bool, true, if◌then◌else◌, ⊤, Option, Some, None, Result, Ok, Err, List, [], ◌∷◌, ◌++◌}
+use Rattle.std.specs.Prelude.{◌≡◌, ◌≢◌, ℕ, zero, suc, ◌+◌, ◌^◌, ◌<◌, ◌≤◌, nat_le, Bool, true, if◌then◌else◌, ⊤, Option, Some, None, Result, Ok, Err, List, [], ◌∷◌, ◌++◌}
 use Rattle.std.specs.List.{AllByRecursion}
 use Rattle.update_core.specs.declared.updates.Update.{Update}
 use Rattle.update_core.specs.Collections.{Collection}
-use Rattle.update_core.specs.Updates.{weight_of}
+use Rattle.update_core.specs.declared.rows.Row.{Row}
+use Rattle.update_core.specs.Updates.{sum_of, weight_of}
+use Rattle.feed_text.specs.declared.replies.RunReply.{RunReply}
 use Rattle.store_core.specs.declared.part_keys.PartKey.{PartKey}
+use Rattle.store_core.specs.declared.replies.Reply.{Reply}
+use Rattle.store_core.specs.declared.replies.Reply.TheVariants as replies
 use Rattle.store_core.specs.Stores.{Stored, with_blob}
 use Rattle.part_codec.specs.Reading.{all_of}
 use Rattle.part_codec.specs.declared.part_faults.PartFault.{PartFault}
@@ -91,3 +95,24 @@ Finds wanted (Ok found) = wanted ≡ Some found
 Finds wanted (Err faults.Memory) = ⊤
 Finds wanted (Err faults.Store) = ⊤
 Finds wanted (Err faults.Damaged) = wanted ≡ None
+
+-- the reply to a Get brings this
+abbrev pub Brings : Reply → Result (Option (List ℕ)) PartsFault → Type 0
+Brings reply (Ok found) = reply ≡ replies.Bytes found
+Brings reply (Err faults.Memory) = ⊥
+Brings reply (Err faults.Store) = (found : Option (List ℕ)) → reply ≢ replies.Bytes found
+Brings reply (Err faults.Damaged) = ⊥
+
+-- the content at t, where the rows aren't too heavy for a sum
+abbrev pub Sums : List Update → ℕ → Result (List Row) PartsFault → Type 0
+Sums rows t (Ok content) = content ≡ sum_of rows t
+Sums rows t (Err faults.Memory) = ⊤
+Sums rows t (Err faults.Store) = ⊥
+Sums rows t (Err faults.Damaged) = 2 ^ 62 < weight_of rows
+
+-- The reply is this one, and the store and what is kept stand for this collection from then on. No part was damaged.
+abbrev pub Keeps : RunReply → Collection → Stored → Keeping → Result RunReply PartsFault → Type 0
+Keeps reply next s k (Ok given) = (given ≡ reply) × Stands s k next
+Keeps reply next s k (Err faults.Memory) = ⊤
+Keeps reply next s k (Err faults.Store) = ⊤
+Keeps reply next s k (Err faults.Damaged) = ⊥

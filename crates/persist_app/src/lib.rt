@@ -4,9 +4,12 @@
 mod clocks;
 mod collections;
 mod endings;
-mod kept_appends;
-mod parts_faults;
 mod ends;
+mod kept_appends;
+mod part_collections;
+mod part_reads;
+mod part_writes;
+mod parts_faults;
 mod plain;
 mod run_faults;
 mod runs;
