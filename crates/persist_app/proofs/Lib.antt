@@ -4,3 +4,4 @@ pub mod TurnLaws
 pub mod PartLaws
 pub mod ReadLaws
 pub mod EncodeLaws
+pub mod StandLaws

@@ -1,7 +1,8 @@
 // The plain collection, its rows kept in a store.
-ghost use Rattle.std.specs.Prelude.{◌≡◌, ◌≤◌, ◌+◌, ◌∷◌, ◌++◌, [], length, IfOk, OnOk, OnErr, None, Some, position};
+ghost use Rattle.std.specs.Prelude.{◌≡◌, ◌≤◌, ◌+◌, ◌^◌, ◌∷◌, ◌++◌, [], length, IfOk, OnOk, OnErr, None, Some, position};
 ghost use Rattle.store_core.specs.Stores.{Stored};
 ghost use Rattle.update_core.specs.Collections.{Collection, append_answer, after_append, snapshot_answer};
+ghost use Rattle.update_core.specs.Frontiers.{is_at};
 ghost use Rattle.update_core.specs.Updates.{sum_of, weight_of};
 ghost use Rattle.persist_app.specs.PlainRuns.{append_reply, append_text, collection_after, is_outside, snapshot_text};
 ghost use Rattle.persist_app.specs.StoreTurns.{Extends, StoreFailed, Turns};
@@ -47,6 +48,13 @@ fn sum_where_light(alloc: Global, rows: &UpdateList, t: u64) -> Result<RowList, 
         return Err(PartsFault::Damaged);
     }
     Ok(sum_at(alloc, rows, t)?)
+}
+
+// Whether the upper is at a lower time.
+fn stands_at(upper: Frontier, lower: u64) -> bool
+    ensures { result ≡ is_at upper lower }
+{
+    upper == Frontier::at(lower)
 }
 
 impl PartCollection {
@@ -100,7 +108,7 @@ impl PartCollection {
         ensures later { S.faults store.old ≤ S.faults store.new }
     {
         let FeedAppend { lower, upper, rows } = append;
-        if self.upper != Frontier::at(lower) {
+        if !stands_at(self.upper, lower) {
             return Ok(RunReply::Mismatch { upper: self.upper });
         }
         let weight = weight(&rows);
@@ -111,9 +119,7 @@ impl PartCollection {
         }
         let rows = consolidate(alloc, rows)?;
         let parts = encode_parts(alloc, rows.as_slice())?;
-        self.keep(store, lower, parts)?;
-        self.upper = upper;
-        self.weight += weight as u64;
+        self.keep(store, lower, upper, weight as u64, parts)?;
         Ok(RunReply::Accepted)
     }
 
@@ -122,10 +128,13 @@ impl PartCollection {
         &mut self,
         store: &mut S,
         lower: u64,
+        upper: Frontier,
+        weight: u64,
         parts: Vec<Bytes>,
     ) -> Result<(), PartsFault>
+        requires { self.old.weight + weight ≤ 2 ^ 62 }
         ensures told { OnOk result (Turns (S.history store.old) (S.history store.new) (λ s t. t ≡ with_parts s (length self.old.appends + 1) 0 parts.items)) }
-        ensures kept { OnOk result (self.new ≡ record self.old { appends = self.old.appends ++ record { lower = lower; parts = length parts.items } ∷ [] }) }
+        ensures kept { OnOk result (self.new ≡ record { appends = self.old.appends ++ record { lower = lower; parts = length parts.items } ∷ []; since = self.old.since; upper = upper; weight = self.old.weight + weight }) }
         ensures grows { Extends (S.history store.old) (S.history store.new) }
         ensures failed { result ≡ Err PartsFault.Store → StoreFailed (S.history store.new) (S.faults store.old) (S.faults store.new) }
         ensures undamaged { result ≡ Err PartsFault.Damaged → ⊥ }
@@ -138,10 +147,12 @@ impl PartCollection {
             parts: parts.len() as u64,
         };
         set_parts(store, token, parts)?;
-        match self.appends.push(kept) {
-            Ok(()) => Ok(()),
-            Err(_) => Err(PartsFault::Memory),
+        if self.appends.push(kept).is_err() {
+            return Err(PartsFault::Memory);
         }
+        self.upper = upper;
+        self.weight += weight;
+        Ok(())
     }
 
     /// The content at a time, where the collection is known there. It reads the parts of the appends whose lower isn't
