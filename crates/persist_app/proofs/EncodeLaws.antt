@@ -1,13 +1,13 @@
 -- Rows that are cut into parts.
-use Rattle.std.proofs.Common.{◌≡◌, ◌≢◌, ℕ, ℤ, pos, Option, Some, None, List, [], ◌∷◌, ◌++◌, map, take, drop, refl, sym, ap, subst, ◌∙◌, append_assoc}
+use Rattle.std.proofs.Common.{◌≡◌, ℕ, Some, List, [], ◌∷◌, ◌++◌, take, drop, refl, sym, ap, subst, ◌∙◌, append_assoc}
 use Rattle.std.specs.declared.cmp.Ordering.TheVariants.{Less}
 use Rattle.std.specs.List.{AllByRecursion}
 use Rattle.std.specs.List.Sorted.{IsStrictlySortedBy}
 use Rattle.std.proofs.lemmas.List.{append-nil, take-append-drop}
 use Rattle.update_core.specs.declared.updates.Update.{Update}
-use Rattle.update_core.specs.Updates.{moment_cmp, moment_entry}
+use Rattle.update_core.specs.Updates.{moment_cmp}
 use Rattle.part_codec.specs.Parts.{NonZero, Part, Rising, moments}
-use Rattle.persist_app.specs.PartRuns.{part_of, rows_of}
+use Rattle.persist_app.specs.PartRuns.{rows_of}
 use Rattle.persist_app.proofs.PartLaws.{rows_of-push}
 use Rattle.persist_app.proofs.ReadLaws.{part_again}
 

@@ -1,11 +1,10 @@
 -- Laws of collections in parts.
-use Rattle.std.proofs.Common.{◌≡◌, ◌≢◌, ℕ, zero, suc, ◌+◌, ◌-◌, ◌<◌, ◌≤◌, ◌^◌, Bool, true, false, cond, ℤ, pos, ◌+ℤ◌, Option, Some, None, List, [], ◌∷◌, ◌++◌, length, map, filter, refl, sym, ap, subst, ◌∙◌, append_assoc, arith}
-use Rattle.std.specs.Prelude.{nat_le, nat_lt, not, ◌&&◌, position, length as len}
+use Rattle.std.proofs.Common.{◌≡◌, ◌≢◌, ℕ, zero, suc, ◌+◌, ◌<◌, ◌≤◌, Bool, true, false, cond, ℤ, pos, ◌+ℤ◌, Option, Some, None, List, [], ◌∷◌, ◌++◌, length, map, refl, sym, ap, subst, ◌∙◌, append_assoc, arith}
+use Rattle.std.specs.Prelude.{nat_le, not, ◌&&◌, position}
 use Rattle.std.specs.List.{AllByRecursion, position_from}
 use Rattle.std.specs.declared.cmp.Ordering.{Ordering}
 use Rattle.std.specs.declared.cmp.Ordering.TheVariants.{Less, Equal, Greater}
 use Rattle.std.specs.Ordering.{nat_cmp, ordering_then, is_eq, int_eq, match_ordering}
-use Rattle.std.specs.Int.RustNames.{unsigned_abs}
 use Rattle.std.proofs.lemmas.Bool.Decides.{nat_tests}
 use Rattle.std.proofs.lemmas.Cmp.{nat_cmp_total, tied_itself}
 use Rattle.std.proofs.lemmas.List.{append-nil}
@@ -22,7 +21,7 @@ use Rattle.update_core.specs.Updates.{weight_of, until, cons, sum_of, moment_cmp
 use Rattle.std.specs.Cmp.Lexicographic.{slice_cmp}
 use Rattle.update_core.proofs.WeightLaws.{weight_of-append, weight_of-cons}
 use Rattle.store_core.specs.declared.part_keys.PartKey.{PartKey}
-use Rattle.store_core.specs.Stores.{Stored, with_blob, set_at, key_cmp}
+use Rattle.store_core.specs.Stores.{Stored, with_blob, key_cmp}
 use Rattle.persist_app.specs.declared.kept_appends.KeptAppend.{KeptAppend}
 use Rattle.persist_app.specs.PlainRuns.{is_outside}
 use Rattle.persist_app.specs.PartRuns.{part_key, part_of, joined, rows_of, parts_rows, append_rows, rows_until, with_parts, HoldsAppend, HoldsAll, Keeping, nothing_kept, Stands}

@@ -1,13 +1,12 @@
 -- What calls that read or set parts have come to.
-use Rattle.std.proofs.Common.{◌≡◌, ◌≢◌, ℕ, zero, suc, ◌+◌, ◌-◌, ◌<◌, ◌≤◌, Bool, true, false, cond, Option, Some, None, Result, Ok, Err, List, [], ◌∷◌, ◌++◌, length, length-drop, drop, get_or, refl, sym, ap, subst, ◌∙◌, arith}
-use Rattle.std.specs.Prelude.{nat_le, OnOk, IfErr, IfSome}
+use Rattle.std.proofs.Common.{◌≡◌, ℕ, suc, ◌+◌, ◌-◌, ◌<◌, ◌≤◌, cond, Option, Some, None, Result, Ok, Err, List, [], ◌∷◌, ◌++◌, length, length-drop, drop, get_or, refl, sym, ap, subst, ◌∙◌, arith}
+use Rattle.std.specs.Prelude.{nat_le, OnOk}
 use Rattle.std.proofs.Math.Seq.{drop-cons}
 use Rattle.std.proofs.lemmas.List.{nil_from_length}
 use Rattle.causes.specs.Causes.{Rose}
 use Rattle.update_core.specs.declared.updates.Update.{Update}
-use Rattle.part_codec.specs.Parts.{Part, IsPart, spelling}
-use Rattle.part_codec.specs.Reading.{all_of, Gives}
-use Rattle.part_codec.specs.declared.part_faults.PartFault.{PartFault}
+use Rattle.part_codec.specs.Parts.{Part}
+use Rattle.part_codec.specs.Reading.{all_of}
 use Rattle.part_codec.proofs.Parts.{all_again}
 use Rattle.store_core.specs.declared.calls.Call.TheVariants as calls
 use Rattle.store_core.specs.declared.replies.Reply.{Reply}
@@ -18,7 +17,7 @@ use Rattle.store_core.specs.Histories.{History, Adds}
 use Rattle.persist_app.specs.declared.kept_appends.KeptAppend.{KeptAppend}
 use Rattle.persist_app.specs.declared.parts_faults.PartsFault.{PartsFault}
 use Rattle.persist_app.specs.declared.parts_faults.PartsFault.TheVariants as faults
-use Rattle.persist_app.specs.StoreTurns.{Turns, Extends, StoreFailed, EndsInFailure}
+use Rattle.persist_app.specs.StoreTurns.{Turns, StoreFailed}
 use Rattle.persist_app.specs.PartRuns.{Brings, Finds, part_key, part_of, joined, parts_rows, append_rows, rows_until, with_parts, ok_of}
 use Rattle.persist_app.proofs.TurnLaws.{no_turn, more_turns, turns_so, get_turn, get_leaves, set_turn}
 use Rattle.persist_app.proofs.PartLaws.{joined-nil, joined-none, joined-more, joined-all}

@@ -1,8 +1,7 @@
 -- Laws of what store calls have come to.
-use Rattle.std.proofs.Common.{◌≡◌, ◌≢◌, ℕ, Option, Some, None, List, [], ◌∷◌, ◌++◌, refl, sym, ap, subst, ◌∙◌, append_assoc, arith}
-use Rattle.std.specs.Prelude.{IfSome, ◌≤◌}
+use Rattle.std.proofs.Common.{◌≡◌, ◌≢◌, ℕ, Option, Some, None, List, [], ◌∷◌, ◌++◌, refl, sym, ap, subst, ◌∙◌, append_assoc}
+use Rattle.std.specs.Prelude.{IfSome}
 use Rattle.std.proofs.lemmas.List.{append-nil}
-use Rattle.causes.specs.Causes.{Rose}
 use Rattle.store_core.specs.declared.calls.Call.{Call}
 use Rattle.store_core.specs.declared.calls.Call.TheVariants as calls
 use Rattle.store_core.specs.declared.replies.Reply.{Reply}
@@ -13,7 +12,7 @@ use Rattle.store_core.specs.declared.part_keys.PartKey.{PartKey}
 use Rattle.store_core.specs.Stores.{Stored, with_blob}
 use Rattle.store_core.specs.Histories.{History, Adds, reply_by, after_outcome, entry_of, store_after, with_entry}
 use Rattle.store_core.proofs.HistoryLaws.{replay-push}
-use Rattle.persist_app.specs.StoreTurns.{Grown, Turns, Extends, EndsInFailure, StoreFailed}
+use Rattle.persist_app.specs.StoreTurns.{Turns, Extends, EndsInFailure}
 
 -- no call
 pub no_turn : (told : Option History) (how : Stored → Stored → Type 0) → ((s : Stored) → how s s) → Turns told told how
@@ -44,6 +43,11 @@ turns_so (Some h) b first how x go = (x.0, x.1, x.2, go (store_after h) (store_a
 pub extends_by : (a b : Option History) (how : Stored → Stored → Type 0) → Turns a b how → Extends a b
 extends_by None b how x = x
 extends_by (Some h) b how x = (x.0, x.1, x.2)
+
+-- no call
+pub extends_itself : (told : Option History) → Extends told told
+extends_itself None = refl
+extends_itself (Some h) = (h, refl, record { start = refl; more = []; trail = sym (append-nil h.trail) })
 
 pub turns_by : (a b : Option History) → Extends a b → Turns a b (λ s t. Unit {0})
 turns_by None b x = x

@@ -1,4 +1,3 @@
-use Rattle.std.proofs.Common.{arith, length}
 use Rattle.persist_app.proofs.EncodeLaws.{encoding_goes_on, front_rises, front_nonzero}
 use Rattle.persist_app.proofs.part_writes.encode_parts.Goals as goal
 

@@ -1,6 +1,5 @@
 use Rattle.std.proofs.Common.{◌≡◌, ◌≤◌, ◌+◌, length}
 use Rattle.persist_app.proofs.ReadLaws.{Setting}
-use Rattle.persist_app.specs.StoreTurns.{Extends}
 use Rattle.persist_app.proofs.part_writes.set_parts.Given as goal
 
 abbrev pub invariant-loop-bytes : goal.invariant-loop-bytes

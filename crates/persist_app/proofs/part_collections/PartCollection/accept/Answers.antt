@@ -1,4 +1,4 @@
-use Rattle.std.proofs.Common.{◌≡◌, ◌+◌, ◌≤◌, ◌^◌, true, sym, ap, subst, ◌∙◌, arith, rules}
+use Rattle.std.proofs.Common.{◌≡◌, ◌+◌, ◌≤◌, ◌^◌, true, ap, subst, ◌∙◌, arith, rules}
 use Rattle.update_core.specs.Frontiers.{is_at}
 use Rattle.persist_app.specs.PartRuns.{Keeping}
 use Rattle.persist_app.proofs.StandLaws.{accepted_told}

@@ -1,8 +1,8 @@
-use Rattle.std.proofs.Common.{◌≤◌, ◌^◌, ◌∙◌, sym, ap, subst, arith, Err}
+use Rattle.std.proofs.Common.{◌≤◌, ◌^◌, ◌∙◌, sym, ap, subst}
 use Rattle.std.proofs.lemmas.Result.{err_from_is_err_and}
 use Rattle.persist_app.specs.PartRuns.{Keeping}
 use Rattle.persist_app.specs.StoreTurns.{Turns}
-use Rattle.persist_app.proofs.StandLaws.{Shows, ShowsContent, content_told, unread_told, unsummed_told}
+use Rattle.persist_app.proofs.StandLaws.{ShowsContent, content_told, unread_told, unsummed_told}
 use Rattle.persist_app.proofs.part_collections.PartCollection.snapshot.Goals as goal
 
 pub returns-in_err-rows-clause-told : goal.returns-in_err-rows-clause-told
