@@ -24,4 +24,6 @@ pub use plain::persist_plain;
 pub use system_clocks::SystemClock;
 
 #[cfg(test)]
+mod deaf_stores;
+#[cfg(test)]
 mod tests;
