@@ -1,15 +1,15 @@
 -- What was read of a source's text tells what the whole text is.
-use Rattle.std.proofs.Common.{◌≡◌, ℕ, ◌+◌, ◌<◌, ◌≤◌, Option, Some, None, List, [], ◌++◌, length, take, refl, sym, ap, subst, ◌∙◌, arith, ◌⊎◌, inl, inr, ⊎_elim}
-use Rattle.std.specs.Option.{IfSome}
+use Rattle.std.proofs.Common.{◌≡◌, ℕ, ◌+◌, ◌<◌, ◌≤◌, Option, Some, None, List, [], ◌++◌, length, take, refl, sym, ap, subst, ◌∙◌, arith, ⊎_elim}
 use Rattle.std.proofs.lemmas.Bool.{cases_lt}
 use Rattle.std.proofs.lemmas.List.{append-nil, take_at}
 use Rattle.feed_text.specs.declared.limits.TheConstants.{MAX_BYTES}
 use Rattle.feed_text.specs.Grammar.{IsFirstFault}
 use Rattle.feed_text.specs.Replies.{line_fault_text}
-use Rattle.feed_text.specs.Streams.{Gains, Left, Takes, AtEnd, TakesAll}
+use Rattle.feed_text.specs.Streams.{Gains, Left, AtEnd, TakesAll}
 use Rattle.persist_app.specs.declared.endings.Ending.{Ending}
 use Rattle.persist_app.specs.declared.endings.Ending.TheVariants as endings
-use Rattle.persist_app.specs.Endings.{AnswersText, EndsRun, IsRun, Performs, RefusesLine}
+use Rattle.store_core.specs.Histories.{History}
+use Rattle.persist_app.specs.Endings.{AnswersText, EndsRun, IsRun, Performs, RefusesLine, Spares}
 use Rattle.feed_text.proofs.Faults.{fault_in_front}
 
 -- what was read to its end is the whole text
@@ -30,9 +30,9 @@ fault_had (Some whole) now text number took fault =
     (whole, refl, fault_in_front whole number (subst (λ t. IsFirstFault t number) (sym front) fault))) (cases_lt (length text) (MAX_BYTES + 1))
 
 -- what a run comes to is told by what has become of the text that was read
-pub run_from_text : (ending : Ending) (left now : Option (List ℕ)) (text : List ℕ) (taken taken_now : Option (List ℕ)) (reads reads_now puts puts_now : ℕ)
-    → TakesAll (MAX_BYTES + 1) left now text → AnswersText ending text taken taken_now puts puts_now → EndsRun ending left now reads reads_now taken taken_now puts puts_now
-run_from_text endings.Complete left now text taken taken_now reads reads_now puts puts_now took answered =
+pub run_from_text : (ending : Ending) (told : Option History) (left now : Option (List ℕ)) (text : List ℕ) (taken taken_now : Option (List ℕ)) (reads reads_now puts puts_now : ℕ)
+    → TakesAll (MAX_BYTES + 1) left now text → AnswersText ending told text taken taken_now puts puts_now → EndsRun ending told left now reads reads_now taken taken_now puts puts_now
+run_from_text endings.Complete told left now text taken taken_now reads reads_now puts puts_now took answered =
     let short : length text < MAX_BYTES + 1 = omega (arith, answered.1.few) in
     record {
       text = text;
@@ -42,18 +42,20 @@ run_from_text endings.Complete left now text taken taken_now reads reads_now put
       spells = answered.1;
       written = answered.2;
     }
-run_from_text endings.NoCommand left now text taken taken_now reads reads_now puts puts_now took answered = absurd answered
-run_from_text (endings.BadLine number) left now text taken taken_now reads reads_now puts puts_now took answered =
+run_from_text endings.NoCommand told left now text taken taken_now reads reads_now puts puts_now took answered = absurd answered
+run_from_text (endings.BadLine number) told left now text taken taken_now reads reads_now puts puts_now took answered =
     let whole = fault_had left now text number took answered.0 in (whole.0, whole.1, whole.2, answered.1)
-run_from_text endings.InputFailed left now text taken taken_now reads reads_now puts puts_now took answered = absurd answered
-run_from_text endings.OutputFailed left now text taken taken_now reads reads_now puts puts_now took answered = answered
-run_from_text endings.Memory left now text taken taken_now reads reads_now puts puts_now took answered = tt
+run_from_text endings.InputFailed told left now text taken taken_now reads reads_now puts puts_now took answered = absurd answered
+run_from_text endings.OutputFailed told left now text taken taken_now reads reads_now puts puts_now took answered = answered
+run_from_text endings.StoreFailed told left now text taken taken_now reads reads_now puts puts_now took answered = tt
+run_from_text endings.Memory told left now text taken taken_now reads reads_now puts puts_now took answered = tt
+run_from_text endings.Damaged told left now text taken taken_now reads reads_now puts puts_now took answered = tt
 
 -- a command that ends at a line, with the line written
-pub line_refused : (words : List (List ℕ)) (ending : Ending) (number : ℕ) (left now : Option (List ℕ)) (reads reads_now : ℕ) (taken between taken_now : Option (List ℕ)) (puts puts_now : ℕ)
-    → Performs words ending left now reads reads_now taken between puts puts_now → ending ≡ endings.BadLine number → Gains between taken_now (line_fault_text number) → IsRun words × RefusesLine left taken taken_now
-line_refused words ending number left now reads reads_now taken between taken_now puts puts_now performed is written =
-    let stopped = subst (λ e. Performs words e left now reads reads_now taken between puts puts_now) is performed in (
+pub line_refused : (words : List (List ℕ)) (ending : Ending) (told : Option History) (number : ℕ) (left now : Option (List ℕ)) (reads reads_now : ℕ) (taken between taken_now : Option (List ℕ)) (puts puts_now : ℕ)
+    → Performs words ending told left now reads reads_now taken between puts puts_now → ending ≡ endings.BadLine number → Gains between taken_now (line_fault_text number) → IsRun words × RefusesLine left taken taken_now
+line_refused words ending told number left now reads reads_now taken between taken_now puts puts_now performed is written =
+    let stopped = subst (λ e. Performs words e told left now reads reads_now taken between puts puts_now) is performed in (
       stopped.0,
       record {
         text = stopped.1;
@@ -63,3 +65,7 @@ line_refused words ending number left now reads reads_now taken between taken_no
         written = subst (λ t. Gains t taken_now (line_fault_text number)) stopped.4 written;
       },
     )
+
+-- a command whose ending spares the store
+pub store_spared : {S : Type 0} (ending is : Ending) (store now : S) → Spares ending store now → ending ≡ is → Spares is store now
+store_spared ending is store now spares e = subst (λ v. Spares v store now) e spares

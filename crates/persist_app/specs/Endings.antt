@@ -1,5 +1,5 @@
 -- How a program's call ends: its status, and what was read and written.
-use Rattle.std.specs.Prelude.{◌≡◌, ◌⊎◌, ◌≤◌, ⊤, ℕ, Option, List, [], ◌∷◌, ◌++◌, codes}
+use Rattle.std.specs.Prelude.{◌≡◌, ◌⊎◌, ◌≤◌, ⊤, ℕ, Option, IfSome, List, [], ◌∷◌, codes}
 use Rattle.causes.specs.Causes.{Rose}
 use Rattle.feed_text.specs.declared.feed_lines.FeedLine.{FeedLine}
 use Rattle.feed_text.specs.Grammar.{Spells, IsFirstFault}
@@ -7,6 +7,7 @@ use Rattle.feed_text.specs.Streams.{Left, AtEnd, Gains}
 use Rattle.feed_text.specs.Replies.{line_fault_text}
 use Rattle.persist_app.specs.declared.endings.Ending.{Ending}
 use Rattle.persist_app.specs.declared.endings.Ending.TheVariants as endings
+use Rattle.store_core.specs.Histories.{History}
 use Rattle.persist_app.specs.PlainRuns.{empty_view, plain_run}
 
 -- the words are the one word `run`
@@ -20,21 +21,28 @@ words_text = codes "words\n"
 abbrev pub input_failed_text : List ℕ
 input_failed_text = codes "input failed\n"
 
+abbrev pub store_failed_text : List ℕ
+store_failed_text = codes "store failed\n"
+
 abbrev pub memory_text : List ℕ
 memory_text = codes "memory\n"
 
+abbrev pub damaged_text : List ℕ
+damaged_text = codes "damaged\n"
+
 -- the statuses that there are
 abbrev pub IsStatus : ℕ → Type 0
-IsStatus status = (status ≡ 0) ⊎ ((status ≡ 2) ⊎ ((status ≡ 3) ⊎ ((status ≡ 4) ⊎ ((status ≡ 5) ⊎ (status ≡ 8)))))
+IsStatus status = (status ≡ 0) ⊎ ((status ≡ 2) ⊎ ((status ≡ 3) ⊎ ((status ≡ 4) ⊎ ((status ≡ 5) ⊎ ((status ≡ 6) ⊎ ((status ≡ 8) ⊎ (status ≡ 9)))))))
 
--- The source's text was read to its end, it spells a feed, and the sink gained the plain run of that feed.
-pub record RunsPlainly (left left_now taken taken_now : Option (List ℕ)) : Type 0 where
+-- The source's text was read to its end and spells a feed. Where the store's history is told, the sink gained the plain
+-- run of that feed.
+pub record RunsPlainly (told : Option History) (left left_now taken taken_now : Option (List ℕ)) : Type 0 where
   pub text : List ℕ
   pub had : Left left text
   pub end : AtEnd left_now
   pub feed : List FeedLine
   pub spells : Spells feed text
-  pub written : Gains taken taken_now (plain_run empty_view feed)
+  pub written : IfSome told (λ h. Gains taken taken_now (plain_run empty_view feed))
 
 -- A line of the source's text is the first outside the grammar or a limit, and the sink gained the line that names it.
 pub record RefusesLine (left taken taken_now : Option (List ℕ)) : Type 0 where
@@ -44,23 +52,34 @@ pub record RefusesLine (left taken taken_now : Option (List ℕ)) : Type 0 where
   pub fault : IsFirstFault text number
   pub written : Gains taken taken_now (line_fault_text number)
 
--- what has become of a text when its commands were executed
-abbrev pub AnswersText : Ending → List ℕ → Option (List ℕ) → Option (List ℕ) → ℕ → ℕ → Type 0
-AnswersText endings.Complete text taken taken_now faults faults_now = (feed : List FeedLine) × Spells feed text × Gains taken taken_now (plain_run empty_view feed)
-AnswersText endings.NoCommand text taken taken_now faults faults_now = ⊥
-AnswersText (endings.BadLine number) text taken taken_now faults faults_now = IsFirstFault text number × (taken_now ≡ taken)
-AnswersText endings.InputFailed text taken taken_now faults faults_now = ⊥
-AnswersText endings.OutputFailed text taken taken_now faults faults_now = Rose faults faults_now
-AnswersText endings.Memory text taken taken_now faults faults_now = ⊤
+-- what has become of a text when its commands were executed over a store
+abbrev pub AnswersText : Ending → Option History → List ℕ → Option (List ℕ) → Option (List ℕ) → ℕ → ℕ → Type 0
+AnswersText endings.Complete told text taken taken_now faults faults_now = (feed : List FeedLine) × Spells feed text × IfSome told (λ h. Gains taken taken_now (plain_run empty_view feed))
+AnswersText endings.NoCommand told text taken taken_now faults faults_now = ⊥
+AnswersText (endings.BadLine number) told text taken taken_now faults faults_now = IsFirstFault text number × (taken_now ≡ taken)
+AnswersText endings.InputFailed told text taken taken_now faults faults_now = ⊥
+AnswersText endings.OutputFailed told text taken taken_now faults faults_now = Rose faults faults_now
+AnswersText endings.StoreFailed told text taken taken_now faults faults_now = ⊤
+AnswersText endings.Memory told text taken taken_now faults faults_now = ⊤
+AnswersText endings.Damaged told text taken taken_now faults faults_now = ⊤
 
 -- what has become of a run that ends so, before its last line
-abbrev pub EndsRun : Ending → Option (List ℕ) → Option (List ℕ) → ℕ → ℕ → Option (List ℕ) → Option (List ℕ) → ℕ → ℕ → Type 0
-EndsRun endings.Complete left left_now reads reads_now taken taken_now puts puts_now = RunsPlainly left left_now taken taken_now
-EndsRun endings.NoCommand left left_now reads reads_now taken taken_now puts puts_now = ⊥
-EndsRun (endings.BadLine number) left left_now reads reads_now taken taken_now puts puts_now = (text : List ℕ) × Left left text × IsFirstFault text number × (taken_now ≡ taken)
-EndsRun endings.InputFailed left left_now reads reads_now taken taken_now puts puts_now = Rose reads reads_now × (taken_now ≡ taken)
-EndsRun endings.OutputFailed left left_now reads reads_now taken taken_now puts puts_now = Rose puts puts_now
-EndsRun endings.Memory left left_now reads reads_now taken taken_now puts puts_now = ⊤
+abbrev pub EndsRun : Ending → Option History → Option (List ℕ) → Option (List ℕ) → ℕ → ℕ → Option (List ℕ) → Option (List ℕ) → ℕ → ℕ → Type 0
+EndsRun endings.Complete told left left_now reads reads_now taken taken_now puts puts_now = RunsPlainly told left left_now taken taken_now
+EndsRun endings.NoCommand told left left_now reads reads_now taken taken_now puts puts_now = ⊥
+EndsRun (endings.BadLine number) told left left_now reads reads_now taken taken_now puts puts_now = (text : List ℕ) × Left left text × IsFirstFault text number × (taken_now ≡ taken)
+EndsRun endings.InputFailed told left left_now reads reads_now taken taken_now puts puts_now = Rose reads reads_now × (taken_now ≡ taken)
+EndsRun endings.OutputFailed told left left_now reads reads_now taken taken_now puts puts_now = Rose puts puts_now
+EndsRun endings.StoreFailed told left left_now reads reads_now taken taken_now puts puts_now = ⊤
+EndsRun endings.Memory told left left_now reads reads_now taken taken_now puts puts_now = ⊤
+EndsRun endings.Damaged told left left_now reads reads_now taken taken_now puts puts_now = ⊤
+
+-- before any command was executed, the store is as it was
+abbrev pub Spares : {S : Type 0} → Ending → S → S → Type 0
+Spares endings.NoCommand store store_now = store_now ≡ store
+Spares (endings.BadLine number) store store_now = store_now ≡ store
+Spares endings.InputFailed store store_now = store_now ≡ store
+Spares _ store store_now = ⊤
 
 -- the line was written and the status is the one that goes with it, or a put failed
 abbrev pub EndsWith : ℕ → ℕ → List ℕ → Option (List ℕ) → Option (List ℕ) → ℕ → ℕ → Type 0
@@ -74,14 +93,18 @@ pub record Finishes (ending : Ending) (status : ℕ) (taken taken_now : Option (
   pub line : status ≡ 3 → (number : ℕ) × (ending ≡ endings.BadLine number) × Gains taken taken_now (line_fault_text number)
   pub input : status ≡ 4 → (ending ≡ endings.InputFailed) × Gains taken taken_now input_failed_text
   pub output : status ≡ 5 → (ending ≡ endings.OutputFailed) ⊎ Rose faults faults_now
+  pub store : status ≡ 6 → (ending ≡ endings.StoreFailed) × Gains taken taken_now store_failed_text
+  pub damaged : status ≡ 9 → (ending ≡ endings.Damaged) × Gains taken taken_now damaged_text
   pub later : faults ≤ faults_now
 
 -- what has become of a command with these words that ends so, before its last line
-abbrev pub Performs : List (List ℕ) → Ending → Option (List ℕ) → Option (List ℕ) → ℕ → ℕ → Option (List ℕ) → Option (List ℕ) → ℕ → ℕ → Type 0
-Performs words endings.Complete left left_now reads reads_now taken taken_now puts puts_now = IsRun words × RunsPlainly left left_now taken taken_now
-Performs words endings.NoCommand left left_now reads reads_now taken taken_now puts puts_now = (IsRun words → ⊥) × (taken_now ≡ taken)
-Performs words (endings.BadLine number) left left_now reads reads_now taken taken_now puts puts_now =
+abbrev pub Performs : List (List ℕ) → Ending → Option History → Option (List ℕ) → Option (List ℕ) → ℕ → ℕ → Option (List ℕ) → Option (List ℕ) → ℕ → ℕ → Type 0
+Performs words endings.Complete told left left_now reads reads_now taken taken_now puts puts_now = IsRun words × RunsPlainly told left left_now taken taken_now
+Performs words endings.NoCommand told left left_now reads reads_now taken taken_now puts puts_now = (IsRun words → ⊥) × (taken_now ≡ taken)
+Performs words (endings.BadLine number) told left left_now reads reads_now taken taken_now puts puts_now =
     IsRun words × (text : List ℕ) × Left left text × IsFirstFault text number × (taken_now ≡ taken)
-Performs words endings.InputFailed left left_now reads reads_now taken taken_now puts puts_now = IsRun words × Rose reads reads_now × (taken_now ≡ taken)
-Performs words endings.OutputFailed left left_now reads reads_now taken taken_now puts puts_now = IsRun words × Rose puts puts_now
-Performs words endings.Memory left left_now reads reads_now taken taken_now puts puts_now = IsRun words
+Performs words endings.InputFailed told left left_now reads reads_now taken taken_now puts puts_now = IsRun words × Rose reads reads_now × (taken_now ≡ taken)
+Performs words endings.OutputFailed told left left_now reads reads_now taken taken_now puts puts_now = IsRun words × Rose puts puts_now
+Performs words endings.StoreFailed told left left_now reads reads_now taken taken_now puts puts_now = IsRun words
+Performs words endings.Memory told left left_now reads reads_now taken taken_now puts puts_now = IsRun words
+Performs words endings.Damaged told left left_now reads reads_now taken taken_now puts puts_now = IsRun words

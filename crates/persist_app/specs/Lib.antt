@@ -1,2 +1,5 @@
 pub mod PlainRuns
+pub mod StoreTurns
+pub mod PartRuns
+pub mod RunFaults
 pub mod Endings

@@ -1,5 +1,5 @@
 -- Plain runs: the replies to a feed, by the plain collection alone.
-use Rattle.std.specs.Prelude.{ℕ, ◌+◌, Option, Some, None, List, [], ◌∷◌, ◌++◌, ◌&&◌, Bool, not, nat_le, position, if◌then◌else◌}
+use Rattle.std.specs.Prelude.{ℕ, ◌+◌, Option, Some, None, List, [], ◌∷◌, ◌&&◌, Bool, not, nat_le, position, if◌then◌else◌}
 use Rattle.std.specs.List.{flat_map}
 use Rattle.update_core.specs.declared.appends.FeedAppend.{FeedAppend}
 use Rattle.update_core.specs.declared.updates.Update.{Update}
@@ -59,6 +59,11 @@ reply_to view (Snapshot t) = snapshot_text (snapshot_answer view.collection t)
 abbrev pub view_after : View → FeedLine → View
 view_after view (Append a) = record { collection = collection_after view.collection a; readers = view.readers }
 view_after view (Snapshot t) = view
+
+-- the collection after a command
+abbrev pub line_after : Collection → FeedLine → Collection
+line_after c (Append a) = collection_after c a
+line_after c (Snapshot t) = c
 
 -- the replies to the commands in turn
 abbrev pub plain_replies : View → List FeedLine → List RunReply

@@ -10,7 +10,7 @@ use std::marker::Model;
 use update_core::{FeedAppend, Frontier, UpdateList, consolidate, sum_at, weight};
 
 /// The greatest weight of a collection.
-const MAX_WEIGHT: u128 = 1 << 62;
+pub(crate) const MAX_WEIGHT: u128 = 1 << 62;
 
 /// A collection whose accepted updates are kept in one list. See docs/DEFINITIONS.md, "The plain collection".
 #[derive(Drop)]
@@ -33,8 +33,8 @@ impl Model for PlainCollection {
     ghost invariant = { λ c. (weight_of c.updates ≤ c.weight) × (c.weight ≤ 2 ^ 62) };
 }
 
-// The place of the first row that is outside the append's range.
-fn first_outside(append: &FeedAppend) -> Option<usize>
+/// The place of the first row that is outside the append's range.
+pub(crate) fn first_outside(append: &FeedAppend) -> Option<usize>
     ensures { result ≡ position (is_outside append.now) append.now.rows }
 {
     append.rows.as_slice().iter().position(|row| !(append.lower <= row.time

@@ -13,6 +13,10 @@ pub enum Ending {
     InputFailed,
     /// A put failed.
     OutputFailed,
+    /// A store call failed.
+    StoreFailed,
     /// Memory was refused.
     Memory,
+    /// A part in the store is damaged.
+    Damaged,
 }

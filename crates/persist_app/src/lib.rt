@@ -5,6 +5,11 @@ mod clocks;
 mod collections;
 mod endings;
 mod ends;
+mod kept_appends;
+mod part_collections;
+mod part_reads;
+mod part_writes;
+mod parts_faults;
 mod plain;
 mod run_faults;
 mod runs;
@@ -18,5 +23,7 @@ pub use ends::Ended;
 pub use plain::persist_plain;
 pub use system_clocks::SystemClock;
 
+#[cfg(test)]
+mod deaf_stores;
 #[cfg(test)]
 mod tests;

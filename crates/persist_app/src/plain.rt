@@ -1,9 +1,10 @@
 // The call that `persist_main` makes.
-ghost use Rattle.std.specs.Prelude.{◌≡◌, ◌≤◌, ◌+◌, ◌⊎◌, IfOk, OnOk, map, string_bytes};
+ghost use Rattle.std.specs.Prelude.{◌≡◌, ◌≤◌, ◌+◌, ◌⊎◌, None, map, string_bytes};
 ghost use Rattle.causes.specs.Causes.{Rose};
 ghost use Rattle.feed_text.specs.declared.limits.TheConstants.{MAX_BYTES};
 ghost use Rattle.feed_text.specs.Streams.{Gains, ReadsUpTo};
-ghost use Rattle.persist_app.specs.Endings.{EndsWith, Finishes, IsRun, IsStatus, Performs, RunsPlainly, RefusesLine, input_failed_text, words_text};
+ghost use Rattle.persist_app.specs.StoreTurns.{Extends, StoreFailed};
+ghost use Rattle.persist_app.specs.Endings.{EndsWith, Finishes, IsRun, IsStatus, Performs, RunsPlainly, RefusesLine, Spares, input_failed_text, words_text};
 
 use crate::clocks::Clock;
 use crate::endings::Ending;
@@ -47,31 +48,39 @@ fn finish<Si: Sink>(alloc: Global, ending: Ending, out: &mut Si) -> u8
         Ending::BadLine { number } => end_with_line(alloc, out, number),
         Ending::InputFailed => end_with(out, b"input failed\n", Status::Input as u8),
         Ending::OutputFailed => Status::Output as u8,
+        Ending::StoreFailed => end_with(out, b"store failed\n", Status::Store as u8),
         Ending::Memory => end_with(out, b"memory\n", Status::Memory as u8),
+        Ending::Damaged => end_with(out, b"damaged\n", Status::Damaged as u8),
     }
 }
 
 // Does what the words say, but for the last line.
-fn perform<So: Source, Si: Sink>(
+#[tactic(auto, using(crate::proofs::TurnLaws::extends_itself))]
+fn perform<So: Source, Si: Sink, S: Store>(
     alloc: Global,
     words: &[String],
     src: &mut So,
     out: &mut Si,
+    store: &mut S,
 ) -> Ending
-    ensures ends { Performs (map string_bytes words.now) result (So.left src.old) (So.left src.new) (So.faults src.old) (So.faults src.new)
+    ensures ends { Performs (map string_bytes words.now) result (S.history store.old) (So.left src.old) (So.left src.new) (So.faults src.old) (So.faults src.new)
         (Si.taken out.old) (Si.taken out.new) (Si.faults out.old) (Si.faults out.new) }
     ensures reading { ReadsUpTo (MAX_BYTES + 1) (So.left src.old) (So.left src.new) (So.reads src.old) (So.reads src.new) }
+    ensures failed { result ≡ Ending.StoreFailed → StoreFailed (S.history store.new) (S.faults store.old) (S.faults store.new) }
+    ensures damaged { result ≡ Ending.Damaged → S.history store.old ≡ None }
+    ensures extends { Extends (S.history store.old) (S.history store.new) }
+    ensures spares { Spares result store.old store.new }
     ensures later { Si.faults out.old ≤ Si.faults out.new }
 {
     if is_run(words) {
-        return run(alloc, src, out);
+        return run(alloc, src, out, store);
     }
     Ending::NoCommand
 }
 
-/// Does what the words say, over a source and a sink. The one command is `run`: it reads a feed and writes the replies
-/// to it. It makes no store call, and gives the store back as it was. See docs/DEFINITIONS.md, "Plain runs" and
-/// "Statuses".
+/// Does what the words say, over a source, a sink and a store. The one command is `run`: it reads a feed and writes the
+/// replies to it, and keeps the accepted updates in the store. It starts from the empty collection, whatever the store
+/// holds. See docs/DEFINITIONS.md, "Plain runs" and "Statuses".
 pub fn persist_plain<So: Source, Si: Sink, S: Store, K: Clock>(
     alloc: Global,
     words: &Vec<String>,
@@ -81,9 +90,10 @@ pub fn persist_plain<So: Source, Si: Sink, S: Store, K: Clock>(
     clock: &mut K,
 ) -> Ended<S>
     ensures statuses { IsStatus result.status }
-    // 0: the text was read to its end, and the plain run of the feed that it spells is written, and nothing else.
+    // 0: the text was read to its end and spells a feed. Where the store tells its history, the plain run of that feed is
+    // written, and nothing else.
     ensures complete { result.status ≡ 0 → IsRun (map string_bytes words.now.items)
-        × RunsPlainly (So.left src.old) (So.left src.new) (Si.taken out.old) (Si.taken out.new) }
+        × RunsPlainly (S.history store) (So.left src.old) (So.left src.new) (Si.taken out.old) (Si.taken out.new) }
     // 2: the words are no command.
     ensures no_command { result.status ≡ 2 → (IsRun (map string_bytes words.now.items) → ⊥)
         × Gains (Si.taken out.old) (Si.taken out.new) words_text }
@@ -96,12 +106,20 @@ pub fn persist_plain<So: Source, Si: Sink, S: Store, K: Clock>(
         × Gains (Si.taken out.old) (Si.taken out.new) input_failed_text }
     // 5: a put failed.
     ensures output { result.status ≡ 5 → Rose (Si.faults out.old) (Si.faults out.new) }
+    // 6: a store call failed, and no other was made after it.
+    ensures store_failed { result.status ≡ 6 → StoreFailed (S.history result.store) (S.faults store) (S.faults result.store) }
+    // 9: what the store holds isn't what was set; no store that tells its history does so.
+    ensures damaged { result.status ≡ 9 → S.history store ≡ None }
     // At most one byte more than a feed may have is read, and each read but the last takes one.
     ensures reading { ReadsUpTo (MAX_BYTES + 1) (So.left src.old) (So.left src.new) (So.reads src.old) (So.reads src.new) }
-    ensures store { result.store ≡ store }
+    // The history, where it is told, has the same start, and a trail that begins with the trail handed in.
+    ensures store { Extends (S.history store) (S.history result.store) }
+    // Where nothing was executed, the store is as it was.
+    ensures untouched { (result.status ≡ 2) ⊎ ((result.status ≡ 3) ⊎ (result.status ≡ 4)) → result.store ≡ store }
 {
     let _moment = clock.now();
-    let ending = perform(alloc, words, src, out);
+    let mut store = store;
+    let ending = perform(alloc, words, src, out, &mut store);
     Ended {
         status: finish(alloc, ending, out),
         store,

@@ -1,7 +1,9 @@
 // Why a run ended early.
 ghost use Rattle.std.specs.Prelude.{◌≡◌};
 ghost use Rattle.persist_app.specs.declared.run_faults.RunFault.TheVariants.{Memory, Sink as Failed};
+ghost use Rattle.persist_app.specs.RunFaults.{fault_of};
 
+use crate::parts_faults::PartsFault;
 use feed_text::SinkFault;
 use std::alloc::AllocError;
 use thiserror::Error;
@@ -15,6 +17,12 @@ pub enum RunFault {
     /// A put failed.
     #[error("a put failed")]
     Sink,
+    /// A store call failed.
+    #[error("a store call failed")]
+    Store,
+    /// A part in the store is damaged.
+    #[error("a part is damaged")]
+    Damaged,
 }
 
 impl From<AllocError> for RunFault {
@@ -30,5 +38,17 @@ impl From<SinkFault> for RunFault {
 
     fn from(_: SinkFault) -> Self {
         RunFault::Sink
+    }
+}
+
+impl From<PartsFault> for RunFault {
+    ghost from_gives = { λ fault e. e ≡ fault_of fault };
+
+    fn from(fault: PartsFault) -> Self {
+        match fault {
+            PartsFault::Memory => RunFault::Memory,
+            PartsFault::Store => RunFault::Store,
+            PartsFault::Damaged => RunFault::Damaged,
+        }
     }
 }

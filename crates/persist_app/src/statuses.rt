@@ -13,6 +13,10 @@ pub enum Status {
     Input = 4,
     /// A put failed.
     Output = 5,
+    /// A store call failed.
+    Store = 6,
     /// Memory was refused.
     Memory = 8,
+    /// A part in the store is damaged.
+    Damaged = 9,
 }

@@ -1,9 +1,11 @@
 use super::*;
+use crate::deaf_stores::DeafStore;
 use causes::NumberList;
-use feed_text::{MemSink, MemSource};
+use feed_text::{Feed, FeedLine, MemSink, MemSource, RunReply, parse_feed, print_reply};
 use std::alloc::{AllocError, Global};
+use std::collections::VecDeque;
 use std::test::Fail;
-use store_core::{FaultList, MemStore};
+use store_core::{Bytes, Call, Entry, FaultAt, FaultList, MemStore, PartKey, ShardId, Store};
 
 fn numbers(alloc: Global, items: &[u64]) -> Result<NumberList, AllocError> {
     let mut numbers = NumberList::new(alloc);
@@ -30,16 +32,56 @@ struct Case<'a> {
     puts: &'a [u64],
 }
 
-// The status, and what was written.
-fn answer(alloc: Global, case: &Case<'_>) -> Result<(u8, Vec<u8>), Fail> {
+// What a call over a store gives back, and what was written.
+fn ended<S: Store>(alloc: Global, case: &Case<'_>, store: S) -> Result<(Ended<S>, Vec<u8>), Fail>
+where
+    S: Drop,
+{
     let words = words_of(alloc, case.words)?;
     let feed = case.feed.to_vec(alloc)?;
     let mut source = MemSource::new(feed, numbers(alloc, case.reads)?);
     let mut sink = MemSink::new(alloc, numbers(alloc, case.puts)?);
-    let store = MemStore::new(alloc, FaultList::new(alloc));
     let mut clock = FixedClock(7);
     let ended = persist_plain(alloc, &words, &mut source, &mut sink, store, &mut clock);
-    Ok((ended.status, sink.taken().to_vec(alloc)?))
+    Ok((ended, sink.taken().to_vec(alloc)?))
+}
+
+// The status over a store in memory, and what was written.
+fn answer(alloc: Global, case: &Case<'_>) -> Result<(u8, Vec<u8>), Fail> {
+    let store = MemStore::new(alloc, FaultList::new(alloc));
+    let (ended, taken) = ended(alloc, case, store)?;
+    Ok((ended.status, taken))
+}
+
+// What a plain collection, kept in one list, replies to a feed.
+fn plain_replies(alloc: Global, feed: Feed) -> Result<Vec<u8>, Fail> {
+    let mut collection = PlainCollection::new(alloc);
+    let mut text = Vec::new(alloc);
+    let mut lines = VecDeque::from(feed.lines.into_items());
+    while let Some(line) = lines.pop_front() {
+        let reply = plain_reply(alloc, &mut collection, line)?;
+        print_reply(&mut text, &reply)?;
+    }
+    Ok(text)
+}
+
+fn plain_reply(
+    alloc: Global,
+    collection: &mut PlainCollection,
+    line: FeedLine,
+) -> Result<RunReply, AllocError> {
+    match line {
+        FeedLine::Append(append) => collection.append(alloc, append),
+        FeedLine::Snapshot { t } => collection.snapshot(alloc, t),
+    }
+}
+
+// What it replies to the feed that a text spells, and nothing where it spells none.
+fn plain_answer(alloc: Global, text: &[u8]) -> Result<Vec<u8>, Fail> {
+    match parse_feed(alloc, text) {
+        Ok(feed) => plain_replies(alloc, feed),
+        Err(_) => Ok(Vec::new(alloc)),
+    }
 }
 
 fn run<'a>(feed: &'a [u8]) -> Case<'a> {
@@ -132,6 +174,10 @@ fn feeds_are_answered(rt: HostRuntime) -> Result<(), Fail> {
         let (ended, taken) = answer(alloc, &run(feed))?;
         assert_eq!(rt; ended, status, "{name}");
         assert_eq!(rt; taken.as_slice(), written, "{name}");
+        if status == 0 {
+            let plain = plain_answer(alloc, feed)?;
+            assert_eq!(rt; plain.as_slice(), written, "{name}");
+        }
     }
     Ok(())
 }
@@ -193,6 +239,144 @@ fn faults_of_the_outside_are_told(rt: HostRuntime) -> Result<(), Fail> {
         let (ended, taken) = answer(alloc, &case)?;
         assert_eq!(rt; ended, status, "{reads:?} {puts:?}");
         assert_eq!(rt; taken.as_slice(), written, "{reads:?} {puts:?}");
+    }
+    Ok(())
+}
+
+fn key(token: u64, index: u64) -> PartKey {
+    PartKey {
+        shard: ShardId(1),
+        member: 0,
+        token,
+        index,
+    }
+}
+
+// Whether the call is a Set, or else a Get, of this key.
+fn is_call(entry: &Entry, set: bool, wanted: PartKey) -> bool {
+    match &entry.call {
+        Call::Set { key, .. } => set && *key == wanted,
+        Call::Get { key } => !set && *key == wanted,
+        _ => false,
+    }
+}
+
+fn are_calls(trail: &[Entry], wanted: &[(bool, u64, u64)]) -> bool {
+    trail.len() == wanted.len()
+        && trail.iter().zip(wanted).all(|(entry, (set, token, index))| {
+            entry.client == 0 && is_call(entry, *set, key(*token, *index))
+        })
+}
+
+#[test]
+fn parts_lie_under_their_keys(rt: HostRuntime) -> Result<(), Fail> {
+    let alloc = rt.alloc();
+    let mut long = b"append 0 5\n".to_vec(alloc)?;
+    for number in 0..4097 {
+        let row = format!(in alloc; "1 1 d{number}\n")?;
+        long.extend_from_slice(row.as_bytes())?;
+    }
+    long.extend_from_slice(b".\nsnapshot 0\nsnapshot 1\n")?;
+    for (name, feed, wanted) in [
+        (
+            "rows past the first 4,096 are a part of their own",
+            long.as_slice(),
+            [
+                (true, 1, 0),
+                (true, 1, 1),
+                (false, 1, 0),
+                (false, 1, 1),
+                (false, 1, 0),
+                (false, 1, 1),
+            ]
+            .as_slice(),
+        ),
+        (
+            "only the appends up to the time are read",
+            b"append 0 5\n2 1 a\n.\nappend 5 5\n.\nappend 5 9\n5 1 b\n.\nsnapshot 4\nsnapshot 5\n".as_slice(),
+            [
+                (true, 1, 0),
+                (true, 2, 0),
+                (false, 1, 0),
+                (false, 1, 0),
+                (false, 2, 0),
+            ]
+            .as_slice(),
+        ),
+        (
+            "no rows are no part, and still a number",
+            b"append 0 5\n1 1 a\n1 -1 a\n.\nappend 5 9\n5 1 b\n.\nsnapshot 8\n".as_slice(),
+            [(true, 2, 0), (false, 2, 0)].as_slice(),
+        ),
+        (
+            "what isn't accepted is not set",
+            b"append 3 5\n3 1 a\n.\nappend 0 2\n2 1 a\n.\nsnapshot 0\n".as_slice(),
+            [].as_slice(),
+        ),
+    ] {
+        let store = MemStore::new(alloc, FaultList::new(alloc));
+        let (ended, _) = ended(alloc, &run(feed), store)?;
+        assert_eq!(rt; ended.status, 0, "{name}");
+        assert!(rt; are_calls(ended.store.trail(), wanted), "{name}");
+    }
+    Ok(())
+}
+
+#[test]
+fn a_failed_store_call_ends_a_run(rt: HostRuntime) -> Result<(), Fail> {
+    let alloc = rt.alloc();
+    let feed = b"append 0 5\n2 1 a\n.\nsnapshot 4\n".as_slice();
+    for (number, status, written) in [
+        (0, 6, b"store failed\n".as_slice()),
+        (1, 6, b"ok\nstore failed\n".as_slice()),
+        (2, 0, b"ok\n1 a\n.\n".as_slice()),
+    ] {
+        for took in [true, false] {
+            let mut faults = FaultList::new(alloc);
+            faults.push(FaultAt { number, took })?;
+            let store = MemStore::new(alloc, faults);
+            let (ended, taken) = ended(alloc, &run(feed), store)?;
+            assert_eq!(rt; ended.status, status, "{number} {took}");
+            assert_eq!(rt; taken.as_slice(), written, "{number} {took}");
+            assert!(rt;
+                ended.store.trail().len() as u64 == 2.min(number + 1),
+                "{number} {took}"
+            );
+        }
+    }
+    Ok(())
+}
+
+#[test]
+fn what_a_store_brings_is_told_or_damaged(rt: HostRuntime) -> Result<(), Fail> {
+    let alloc = rt.alloc();
+    let feed = b"append 0 5\n2 1 a\n.\nsnapshot 4\n".as_slice();
+    // The part of a row (b, 3, 1), as it is written down in docs/DEFINITIONS.md for (a, 3, 1).
+    let other = b"PART\x01\0\0\0\x01\x01b\0\0\0\0\0\0\0\x03\0\0\0\0\0\0\0\x01".as_slice();
+    let heavy = b"PART\x01\0\0\0\x01\x01b\0\0\0\0\0\0\0\x03\x40\0\0\0\0\0\0\x01".as_slice();
+    for (name, bytes, status, written) in [
+        ("nothing", None, 9, b"ok\ndamaged\n".as_slice()),
+        (
+            "no part",
+            Some(b"PART".as_slice()),
+            9,
+            b"ok\ndamaged\n".as_slice(),
+        ),
+        ("another part", Some(other), 0, b"ok\n1 b\n.\n".as_slice()),
+        (
+            "too heavy a part",
+            Some(heavy),
+            9,
+            b"ok\ndamaged\n".as_slice(),
+        ),
+    ] {
+        let bytes = match bytes {
+            Some(bytes) => Some(Bytes::of(alloc, bytes.to_vec(alloc)?)?),
+            None => None,
+        };
+        let (ended, taken) = ended(alloc, &run(feed), DeafStore { alloc, bytes })?;
+        assert_eq!(rt; ended.status, status, "{name}");
+        assert_eq!(rt; taken.as_slice(), written, "{name}");
     }
     Ok(())
 }
