@@ -3,7 +3,6 @@ use crate::deaf_stores::DeafStore;
 use causes::NumberList;
 use feed_text::{Feed, FeedLine, MemSink, MemSource, RunReply, parse_feed, print_reply};
 use std::alloc::{AllocError, Global};
-use std::collections::VecDeque;
 use std::test::Fail;
 use store_core::{Bytes, Call, Entry, FaultAt, FaultList, MemStore, PartKey, ShardId, Store};
 
@@ -57,8 +56,7 @@ fn answer(alloc: Global, case: &Case<'_>) -> Result<(u8, Vec<u8>), Fail> {
 fn plain_replies(alloc: Global, feed: Feed) -> Result<Vec<u8>, Fail> {
     let mut collection = PlainCollection::new(alloc);
     let mut text = Vec::new(alloc);
-    let mut lines = VecDeque::from(feed.lines.into_items());
-    while let Some(line) = lines.pop_front() {
+    for line in feed.lines.into_items() {
         let reply = plain_reply(alloc, &mut collection, line)?;
         print_reply(&mut text, &reply)?;
     }
