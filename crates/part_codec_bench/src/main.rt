@@ -1,12 +1,13 @@
 //! Encodes, decodes or copies a full part so many times, for a clock outside to time: `encode COUNT`, `decode COUNT` or
-//! `copy COUNT`. Prints the bytes of one part.
+//! `copy COUNT` prints the bytes of one part. `read` prints for each line of standard input, which is hex, what the part
+//! with these bytes is.
 #![tactic(auto)]
 
 ghost use Rattle.std.specs.Prelude.{◌≤◌, IfOk, length};
 ghost use Rattle.part_codec.specs.Parts.{NonZero, Rising};
 
 use anyhow::{Context, Result, bail};
-use part_codec::{decode_part, encode_part};
+use part_codec::{PartFault, decode_part, encode_part};
 use std::alloc::Global;
 use std::env;
 use std::rt::Env;
@@ -70,21 +71,53 @@ fn copy(alloc: Global, count: u64) -> Result<usize> {
     Ok(last)
 }
 
-fn run(rt: &(impl Env + AllocGlobal), alloc: Global) -> Result<usize> {
-    let mut words = env::args(rt)?.skip(1);
-    let what = words.next().context("encode, decode or copy")?;
-    let count = words.next().context("how often")?;
-    let count = count.as_str().parse::<u64>().context("a number")?;
-    match what.as_str() {
+// What the part with these bytes is, as one line.
+fn answer(rt: &impl Print, alloc: Global, bytes: &[u8]) -> Result<()> {
+    match decode_part(alloc, bytes) {
+        Ok(rows) => println!(rt; "rows {}", rows.as_slice().len())?,
+        Err(PartFault::Short { place }) => println!(rt; "short {place}")?,
+        Err(PartFault::Magic { place }) => println!(rt; "magic {place}")?,
+        Err(PartFault::Form { place }) => println!(rt; "form {place}")?,
+        Err(PartFault::Size { place }) => println!(rt; "size {place}")?,
+        Err(PartFault::Order { place }) => println!(rt; "order {place}")?,
+        Err(PartFault::Zero { place }) => println!(rt; "zero {place}")?,
+        Err(PartFault::Trailing { place }) => println!(rt; "trailing {place}")?,
+        Err(PartFault::Memory) => bail!("out of memory"),
+    }
+    Ok(())
+}
+
+fn read(rt: &(impl Input + Print + AllocGlobal), alloc: Global) -> Result<()> {
+    for line in rt.lines(alloc) {
+        let Ok(bytes) = hex::decode(alloc, line?) else {
+            bail!("a line is no hex");
+        };
+        answer(rt, alloc, &bytes)?;
+    }
+    Ok(())
+}
+
+fn time(alloc: Global, what: &str, count: u64) -> Result<usize> {
+    match what {
         "encode" => encode(alloc, count),
         "decode" => decode(alloc, count),
         "copy" => copy(alloc, count),
-        _ => bail!("encode, decode or copy"),
+        _ => bail!("encode, decode, copy or read"),
     }
 }
 
-fn main(rt: HostRuntime) -> Result<()> {
-    let bytes = run(&rt, rt.alloc())?;
-    println!(rt; "{bytes}")?;
+fn run(rt: &(impl Env + Input + Print + AllocGlobal), alloc: Global) -> Result<()> {
+    let mut words = env::args(rt)?.skip(1);
+    let what = words.next().context("encode, decode, copy or read")?;
+    if what.as_str() == "read" {
+        return read(rt, alloc);
+    }
+    let count = words.next().context("how often")?;
+    let count = count.as_str().parse::<u64>().context("a number")?;
+    println!(rt; "{}", time(alloc, what.as_str(), count)?)?;
     Ok(())
+}
+
+fn main(rt: HostRuntime) -> Result<()> {
+    run(&rt, rt.alloc())
 }
