@@ -1,25 +1,43 @@
-use Rattle.std.proofs.Common.{◌≡◌, ℕ, suc, ◌<◌, ◌≤◌, true, List, [], ◌∷◌, ◌++◌, refl, arith, subst, Some, None, Option}
+use Rattle.std.proofs.Common.{◌≡◌, ℕ, suc, ◌<◌, ◌≤◌, true, List, [], ◌∷◌, ◌++◌, refl, arith, subst, sym, Some, None, Option}
 use Rattle.std.proofs.lemmas.Bool.{ltb-true, le-leb}
-use Rattle.state_core.specs.Lists.{AllByRecursion}
+use Rattle.std.specs.List.{AllByRecursion}
 use Rattle.update_core.specs.Frontiers.{covers}
 use Rattle.state_core.proofs.ListLemmas.{each_front, each_back}
 use Rattle.store_core.specs.declared.part_keys.PartKey.{PartKey}
+use Rattle.spine_core.specs.Spines.{Follows, upper_from}
 use Rattle.spine_core.specs.declared.batches.Batch.{Batch}
 use Rattle.state_core.specs.declared.transitions.Transition.{Transition}
 use Rattle.state_core.specs.declared.transitions.Transition.TheVariants.{Init, Join, Leave, Renew, Advance, Expire, Append, Merge}
-use Rattle.state_core.specs.States.{ShardState, Runs, keys_of}
+use Rattle.state_core.specs.States.{ShardState, IsState, keys_of}
 use Rattle.state_core.specs.Steps.{Applies}
-
-before-le : (o : Option ℕ) (a t : ℕ) → t ≤ a → is_before o a ≡ true → is_before o t ≡ true
-before-le None a t le h = refl
-before-le (Some n) a t le h = let lt : a < n = ltb-true a n h in le-leb (suc t) n (omega arith)
 
 -- a frontier that covers a time covers each earlier one
 pub covers_earlier : (f : Option ℕ) (a t : ℕ) → t ≤ a → covers f a ≡ true → covers f t ≡ true
-covers_earlier f a t le h = before-le f a t le h
+covers_earlier None a t le h = refl
+covers_earlier (Some n) a t le h = let lt : a < n = ltb-true a n h in le-leb (suc t) n (omega arith)
 
 pub covers_open : (n t : ℕ) → covers (Some n) t ≡ true → t < n
 covers_open n t h = ltb-true t n h
+
+-- the batches run from one frontier to another without a gap
+abbrev pub Runs : Option ℕ → List Batch → Option ℕ → Type 0
+Runs from [] to = from ≡ to
+Runs from (b ∷ bs) to = (from ≡ Some b.desc.lower) × (covers b.desc.upper b.desc.lower ≡ true) × Runs b.desc.upper bs to
+
+pub runs_of : (f : Option ℕ) (bs : List Batch) → Follows f bs → Runs f bs (upper_from f bs)
+runs_of f [] h = refl
+runs_of f (b ∷ bs) h = (h.0, h.1, runs_of b.desc.upper bs h.2)
+
+pub runs_follow : (f : Option ℕ) (bs : List Batch) (to : Option ℕ) → Runs f bs to → Follows f bs
+runs_follow f [] to h = tt
+runs_follow f (b ∷ bs) to h = (h.0, h.1, runs_follow b.desc.upper bs to h.2)
+
+pub runs_upper : (f : Option ℕ) (bs : List Batch) (to : Option ℕ) → Runs f bs to → to ≡ upper_from f bs
+runs_upper f [] to h = sym h
+runs_upper f (b ∷ bs) to h = runs_upper b.desc.upper bs to h.2
+
+pub runs_state : (s : ShardState) → IsState s → Runs (Some 0) s.batches s.upper
+runs_state s r = subst (λ (g : Option ℕ). Runs (Some 0) s.batches g) (sym r.upper_is) (runs_of (Some 0) s.batches r.spine)
 
 -- the batches run to a frontier that covers what their start covers
 pub runs_cover : (f : Option ℕ) (bs : List Batch) (to : Option ℕ) (t : ℕ) → Runs f bs to → covers f t ≡ true → covers to t ≡ true

@@ -1,11 +1,11 @@
-use Rattle.std.proofs.Common.{◌≡◌, ℕ, ◌+◌, ◌<◌, true, List, [], ◌∷◌, ◌++◌, refl, arith, subst, sym, ap, ◌∙◌}
+use Rattle.std.proofs.Common.{◌≡◌, ℕ, ◌+◌, ◌<◌, true, List, [], ◌∷◌, ◌++◌, refl, arith, subst, sym, ap, ◌∙◌, Option, Some}
 use Rattle.update_core.specs.Frontiers.{covers}
 use Rattle.spine_core.specs.declared.batches.Batch.{Batch}
 use Rattle.state_core.specs.declared.transitions.Transition.{Transition}
 use Rattle.state_core.specs.declared.transitions.Transition.TheVariants.{Init, Join, Leave, Renew, Advance, Expire, Append, Merge}
-use Rattle.state_core.specs.States.{ShardState, IsState, Runs}
+use Rattle.state_core.specs.States.{ShardState, IsState}
 use Rattle.state_core.specs.Steps.{Applies, Makes, changed}
-use Rattle.state_core.proofs.Batches.{covers_open, covers_earlier}
+use Rattle.state_core.proofs.Batches.{Runs, runs_state, covers_open, covers_earlier}
 
 -- a batch of a run begins past each time that the run's start covers
 begins_past : (f : Option ℕ) (before behind : List Batch) (b : Batch) (to : Option ℕ) (t : ℕ) → Runs f (before ++ b ∷ behind) to → covers f t ≡ true → t < b.desc.lower
@@ -43,7 +43,7 @@ makes_one s a b (Advance member to) r m n = m.effect ∙ sym n.effect
 makes_one s a b (Expire now) r m n = m.effect ∙ sym n.effect
 makes_one s a b (Append member token expected new parts rows weight) r m n = m.effect ∙ sym n.effect
 makes_one s a b (Merge member token left right merged) r m n =
-    let runs : Runs (Some 0) (m.before ++ left ∷ right ∷ m.behind) s.upper = subst (λ (bs : List Batch). Runs (Some 0) bs s.upper) m.present r.runs in
+    let runs : Runs (Some 0) (m.before ++ left ∷ right ∷ m.behind) s.upper = subst (λ (bs : List Batch). Runs (Some 0) bs s.upper) m.present (runs_state s r) in
     let (p, q) = one_place (Some 0) m.before n.before (right ∷ m.behind) (right ∷ n.behind) left s.upper runs (sym m.present ∙ n.present) in
     let q2 : m.behind ≡ n.behind = cc in
     let with_batches : List Batch → ShardState = λ bs. record s { number = s.number + 1; batches = bs; members = changed member (λ w. record w { token = token; hold = s.number + 1 }) s.members } in

@@ -1,5 +1,5 @@
 use Rattle.std.proofs.Common.{◌≡◌, ℕ, ◌+◌, ◌≤◌, min, false, cond, List, [], ◌∷◌, inl, inr, refl, arith, eqb}
-use Rattle.state_core.specs.Lists.{AllByRecursion}
+use Rattle.std.specs.List.{AllByRecursion}
 use Rattle.state_core.proofs.ListLemmas.{each_map, each_append, bool_cases}
 use Rattle.state_core.specs.declared.kinds.Kind.{Kind}
 use Rattle.state_core.specs.declared.kinds.Kind.TheVariants.{Writer, Reader, Keeper}
@@ -19,8 +19,8 @@ floor_greatest n top [] a h = a
 floor_greatest n top (m ∷ ms) a h =
     let rest : n ≤ least_hold top ms = floor_greatest n top ms a h.1 in
     elim (bool_cases (is_writer m.kind)) [
-      inl e ↦ rw e rest
-    | inr e ↦ let own : n ≤ m.hold = h.0 e in rw e (omega arith)
+      | inl e ↦ rw e rest
+      | inr e ↦ let own : n ≤ m.hold = h.0 e in rw e (omega arith)
     ]
 
 pub floor_top : (top : ℕ) (ms : List Member) → least_hold top ms ≤ top
@@ -37,10 +37,11 @@ least_of_head top m ms e = rw e (omega arith)
 
 floor_holds : (top : ℕ) (ms : List Member) → AllByRecursion (Holds (least_hold top ms)) ms
 floor_holds top [] = tt
-floor_holds top (m ∷ ms) =
-    (least_of_head top m ms,
-     each_map (Holds (least_hold top ms)) (Holds (least_hold top (m ∷ ms))) ms
-       (λ x h g. let k : least_hold top ms ≤ x.hold = h g in let low : least_hold top (m ∷ ms) ≤ least_hold top ms = least_falls top m ms in omega arith) (floor_holds top ms))
+floor_holds top (m ∷ ms) = (
+  least_of_head top m ms,
+  each_map (Holds (least_hold top ms)) (Holds (least_hold top (m ∷ ms))) ms
+      (λ x h g. let k : least_hold top ms ≤ x.hold = h g in let low : least_hold top (m ∷ ms) ≤ least_hold top ms = least_falls top m ms in omega arith) (floor_holds top ms),
+)
 
 holds_without : (n member : ℕ) (ms : List Member) → AllByRecursion (Holds n) ms → AllByRecursion (Holds n) (without member ms)
 holds_without n member [] h = h
@@ -68,7 +69,7 @@ floor_rises s s2 (Join kind now lease) a =
     let up : floor s ≤ s.number + 1 = omega arith in
     let new : (k : Kind) → is_writer k ≡ false → floor s ≤ beat_of k (s.number + 1) = elim [ Writer ↦ (λ e. cc) | Reader ↦ (λ e. up) | Keeper ↦ (λ e. up) ] in
     rw a.makes.effect (floor_greatest (floor s) (s.number + 1) _ up
-      (each_append (Holds (floor s)) s.members _ (floor_holds s.number s.members) (new kind, tt)))
+    (each_append (Holds (floor s)) s.members _ (floor_holds s.number s.members) (new kind, tt)))
 floor_rises s s2 (Leave member) a =
     let top : floor s ≤ s.number = floor_top s.number s.members in
     let up : floor s ≤ s.number + 1 = omega arith in

@@ -1,6 +1,7 @@
 use Rattle.std.proofs.Common.{◌≡◌, ℕ, suc, ◌<◌, ◌≤◌, List, [], ◌∷◌, ◌++◌, ◌⊎◌, inl, inr, refl, arith, subst, sym, ap, ◌∙◌, eqb, append_assoc, Some}
 use Rattle.std.proofs.lemmas.Bool.{eqb-true}
-use Rattle.state_core.specs.Lists.{Among, AllByRecursion, Distinct}
+use Rattle.state_core.specs.Lists.{Among, Distinct}
+use Rattle.std.specs.List.{AllByRecursion}
 use Rattle.state_core.proofs.ListLemmas.{each_append, each_among, among_front, among_back, among_split, apart, distinct_back, bool_cases}
 use Rattle.store_core.specs.declared.shards.ShardId.{ShardId}
 use Rattle.store_core.specs.declared.part_keys.PartKey.{PartKey}
@@ -26,7 +27,8 @@ is_of shard member token i [] k a h = absurd h
 is_of shard member token i (q ∷ ks) k a (inl e) = record {
   shard_is = ap (λ (x : PartKey). x.shard) (sym e ∙ a.0);
   member_is = ap (λ (x : PartKey). x.member) (sym e ∙ a.0);
-  token_is = ap (λ (x : PartKey). x.token) (sym e ∙ a.0) }
+  token_is = ap (λ (x : PartKey). x.token) (sym e ∙ a.0);
+}
 is_of shard member token i (q ∷ ks) k a (inr h) = is_of shard member token (suc i) ks k a.1 h
 
 -- the member whose token is spent stands below it, so a key under that token doesn't fit
@@ -111,11 +113,19 @@ fits_makes s s2 (Renew member now) k a fits =
 fits_makes s s2 (Advance member to) k a fits =
     rw a.effect (record { of_shard = fits.of_shard; below = fits.below; spent = each_changed (Spent k) member _ s.members (λ m e h. h) fits.spent })
 fits_makes s s2 (Append member token expected new parts rows weight) k a fits =
-    rw a.effect (record { of_shard = fits.of_shard; below = fits.below; spent = each_changed (Spent k) member _ s.members
-      (λ m e h g. spent_above s.shard s.next_member member token _ s.members k fits a.stands (sym e ∙ g)) fits.spent })
+    rw a.effect (record {
+      of_shard = fits.of_shard;
+      below = fits.below;
+      spent = each_changed (Spent k) member _ s.members
+          (λ m e h g. spent_above s.shard s.next_member member token _ s.members k fits a.stands (sym e ∙ g)) fits.spent;
+    })
 fits_makes s s2 (Merge member token left right merged) k a fits =
-    rw a.effect (record { of_shard = fits.of_shard; below = fits.below; spent = each_changed (Spent k) member _ s.members
-      (λ m e h g. spent_above s.shard s.next_member member token _ s.members k fits a.stands (sym e ∙ g)) fits.spent })
+    rw a.effect (record {
+      of_shard = fits.of_shard;
+      below = fits.below;
+      spent = each_changed (Spent k) member _ s.members
+          (λ m e h g. spent_above s.shard s.next_member member token _ s.members k fits a.stands (sym e ∙ g)) fits.spent;
+    })
 
 pub fits_on : (s s2 : ShardState) (x : Transition) (k : PartKey) → Applies s x s2 → KeyFits s.shard s.next_member s.members k → KeyFits s2.shard s2.next_member s2.members k
 fits_on s s2 x k a fits = fits_makes s s2 x k a.makes fits
@@ -135,26 +145,28 @@ named_after s s2 (Append member token expected new parts rows weight) k a h =
     let h2 = subst (λ (t : ShardState). Names t k) a.makes.effect h in
     let h3 = rw keys-append at h2 in
     elim (among_split (Is k) (keys_of s.batches) _ h3) [
-      inl g ↦ inl g
-    | inr g ↦ elim (among_split (Is k) parts [] g) [ inl f ↦ inr f | inr f ↦ absurd f ]
+      | inl g ↦ inl g
+      | inr g ↦ elim (among_split (Is k) parts [] g) [ inl f ↦ inr f | inr f ↦ absurd f ]
     ]
 named_after s s2 (Merge member token left right merged) k a h =
     let h2 = subst (λ (t : ShardState). Names t k) a.makes.effect h in
     let h3 = rw keys-append at h2 in
     elim (among_split (Is k) (keys_of a.makes.before) _ h3) [
-      inl g ↦ inl (rw (a.makes.present, keys-append) (among_front (Is k) (keys_of a.makes.before) _ g))
-    | inr g ↦ elim (among_split (Is k) merged.parts (keys_of a.makes.behind) g) [
-        inl f ↦ inr f
-      | inr f ↦ inl (rw (a.makes.present, keys-append) (among_back (Is k) (keys_of a.makes.before) _ (among_back (Is k) left.parts _ (among_back (Is k) right.parts _ f)))) ]
+      | inl g ↦ inl (rw (a.makes.present, keys-append) (among_front (Is k) (keys_of a.makes.before) _ g))
+      | inr g ↦ elim (among_split (Is k) merged.parts (keys_of a.makes.behind) g) [
+        | inl f ↦ inr f
+        | inr f ↦ inl (rw (a.makes.present, keys-append) (among_back (Is k) (keys_of a.makes.before) _ (among_back (Is k) left.parts _ (among_back (Is k) right.parts _ f))))
+      ]
     ]
 
 -- a key that is taken was named
 pub taken_named : (s s2 : ShardState) (x : Transition) (k : PartKey) → Applies s x s2 → Takes x k → Names s k
 taken_named s s2 (Merge member token left right merged) k a h =
     rw (a.makes.present, keys-append) (among_back (Is k) (keys_of a.makes.before) _
-      (elim (among_split (Is k) left.parts right.parts h) [
-        inl f ↦ among_front (Is k) left.parts _ f
-      | inr f ↦ among_back (Is k) left.parts _ (among_front (Is k) right.parts _ f) ]))
+    (elim (among_split (Is k) left.parts right.parts h) [
+      | inl f ↦ among_front (Is k) left.parts _ f
+      | inr f ↦ among_back (Is k) left.parts _ (among_front (Is k) right.parts _ f)
+    ]))
 taken_named s s2 Init k a h = absurd h
 taken_named s s2 (Join kind now lease) k a h = absurd h
 taken_named s s2 (Leave member) k a h = absurd h
@@ -182,15 +194,18 @@ taken_unnamed s s2 (Merge member token left right merged) k r a t h =
     let h3 = rw keys-append at h2 in
     let fits = names_fit s k r (taken_named s s2 (Merge member token left right merged) k a t) in
     elim (among_split (Is k) (keys_of a.makes.before) _ h3) [
-      inl g ↦ apart (keys_of a.makes.before) _ k d2 g
-        (elim (among_split (Is k) left.parts right.parts t) [
-          inl f ↦ among_front (Is k) left.parts _ f
-        | inr f ↦ among_back (Is k) left.parts _ (among_front (Is k) right.parts _ f) ])
-    | inr g ↦ elim (among_split (Is k) merged.parts (keys_of a.makes.behind) g) [
-        inl f ↦ added_fresh s s2 (Merge member token left right merged) k a f fits
-      | inr f ↦ elim (among_split (Is k) left.parts right.parts t) [
-          inl l ↦ apart left.parts _ k rest l (among_back (Is k) right.parts _ f)
-        | inr l ↦ apart right.parts _ k (distinct_back left.parts _ rest) l f ] ]
+      | inl g ↦ apart (keys_of a.makes.before) _ k d2 g
+          (elim (among_split (Is k) left.parts right.parts t) [
+            | inl f ↦ among_front (Is k) left.parts _ f
+            | inr f ↦ among_back (Is k) left.parts _ (among_front (Is k) right.parts _ f)
+          ])
+      | inr g ↦ elim (among_split (Is k) merged.parts (keys_of a.makes.behind) g) [
+        | inl f ↦ added_fresh s s2 (Merge member token left right merged) k a f fits
+        | inr f ↦ elim (among_split (Is k) left.parts right.parts t) [
+          | inl l ↦ apart left.parts _ k rest l (among_back (Is k) right.parts _ f)
+          | inr l ↦ apart right.parts _ k (distinct_back left.parts _ rest) l f
+        ]
+      ]
     ]
 taken_unnamed s s2 Init k r a t h = absurd t
 taken_unnamed s s2 (Join kind now lease) k r a t h = absurd t

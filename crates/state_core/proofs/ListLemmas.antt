@@ -1,5 +1,6 @@
 use Rattle.std.proofs.Common.{◌≡◌, Bool, true, false, List, [], ◌∷◌, ◌++◌, ◌⊎◌, inl, inr, refl, ap, subst}
-use Rattle.state_core.specs.Lists.{Among, AllByRecursion, Distinct}
+use Rattle.state_core.specs.Lists.{Among, Distinct}
+use Rattle.std.specs.List.{AllByRecursion}
 
 pub among_map : {A : Type 0} (P Q : A → Type 0) (xs : List A) → ((x : A) → P x → Q x) → Among P xs → Among Q xs
 among_map P Q [] f h = h

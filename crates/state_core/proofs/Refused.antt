@@ -1,13 +1,14 @@
-use Rattle.std.proofs.Common.{◌≡◌, ◌&&◌, not, ℕ, suc, ◌+◌, ◌*◌, ◌<◌, ◌≤◌, ◌^◌, Bool, true, false, cond, List, [], ◌∷◌, ◌++◌, inl, inr, refl, arith, subst, sym, ap, eqb, leb, ltb, Some, None, Option, length}
+use Rattle.std.proofs.Common.{◌∙◌, is_some, option_map, ◌≡◌, ◌&&◌, not, ℕ, suc, ◌+◌, ◌*◌, ◌<◌, ◌≤◌, ◌^◌, Bool, true, false, cond, List, [], ◌∷◌, ◌++◌, inl, inr, refl, arith, subst, sym, ap, eqb, leb, ltb, Some, None, Option, length}
+use Rattle.std.specs.Bool.{⊤}
 use Rattle.std.specs.List.{list_any}
 use Rattle.std.proofs.lemmas.Bool.{eqb-true, eqb-false, eq-eqb, ne_eqb, ltb-true, le-leb, leb-true}
 use Rattle.std.proofs.lemmas.Bool.Decides.{leb_tells}
 use Rattle.state_core.specs.Lists.{Among}
-use Rattle.update_core.specs.Frontiers.{covers}
+use Rattle.update_core.specs.Frontiers.{covers, frontier_eq}
 use Rattle.state_core.proofs.ListLemmas.{bool_cases, among_map, each_among}
 use Rattle.store_core.specs.declared.shards.ShardId.{ShardId}
 use Rattle.store_core.specs.declared.part_keys.PartKey.{PartKey}
-use Rattle.store_core.specs.Store.{same_key, same_shard}
+use Rattle.spine_core.specs.Places.{adjacent_place}
 use Rattle.state_core.specs.declared.kinds.Kind.{Kind}
 use Rattle.state_core.specs.declared.kinds.Kind.TheVariants.{Writer, Reader, Keeper}
 use Rattle.spine_core.specs.declared.batches.Batch.{Batch}
@@ -18,14 +19,14 @@ use Rattle.state_core.specs.declared.refusals.Refusal.{Refusal}
 use Rattle.state_core.specs.declared.refusals.Refusal.TheVariants.{Shape, Spent, NoMember, TokenOld, UpperIs, Heavy, Back, NotPresent, NotDue}
 use Rattle.state_core.specs.States.{ShardState, IsState, IsPartCount, is_writer, is_reader}
 use Rattle.state_core.specs.Steps.{Applies, Makes, AreKeys, JoinShape, AppendShape, MergeShape, Stands, is_out}
-use Rattle.state_core.specs.Refusals.{refusal_of, refusal_by_kind, of_member, member_of, follows, is_shaped, same_time, same_frontier, same_keys, same_batch, are_keys, is_part_count, is_keeper, any_kind}
+use Rattle.state_core.specs.Refusals.{refusal_of, refusal_by_kind, of_member, member_of, follows, is_shaped, is_key, same_key, same_keys, same_batch, are_keys, is_part_count, is_keeper, any_kind}
 use Rattle.state_core.proofs.Rules.{applies_of, Rise, rise_of}
 
 and_true : (a b : Bool) → (a && b) ≡ true → (a ≡ true) × (b ≡ true)
 and_true true b h = (refl, h)
 and_true false b h = cc
 
-shard_eq : (a b : ShardId) → same_shard a b ≡ true → a ≡ b
+shard_eq : (a b : ShardId) → eqb a.0 b.0 ≡ true → a ≡ b
 shard_eq a b h = let f : ℕ → ShardId = λ n. record { 0 = n } in ap f (eqb-true a.0 b.0 h)
 
 make_key : ShardId → ℕ → ℕ → ℕ → PartKey
@@ -40,19 +41,16 @@ same_fields a b s m t i = made_key a.shard b.shard a.member b.member a.token b.t
 
 key_eq : (a b : PartKey) → same_key a b ≡ true → a ≡ b
 key_eq a b h =
-    let (p, q) = and_true (same_shard a.shard b.shard) _ h in
+    let (p, q) = and_true (eqb a.shard.0 b.shard.0) _ h in
     let (q1, q2) = and_true (eqb a.member b.member) _ q in
     let (q3, q4) = and_true (eqb a.token b.token) _ q2 in
     same_fields a b (shard_eq a.shard b.shard p) (eqb-true _ _ q1) (eqb-true _ _ q3) (eqb-true _ _ q4)
 
-time_eq : (a b : Option ℕ) → same_time a b ≡ true → a ≡ b
-time_eq None None h = refl
-time_eq (Some a) (Some b) h = ap Some (eqb-true a b h)
-time_eq None (Some b) h = cc
-time_eq (Some a) None h = cc
-
-frontier_eq : (f g : Option ℕ) → same_frontier f g ≡ true → f ≡ g
-frontier_eq f g h = let make : Option ℕ → Option ℕ = λ t. record { time = t } in ap make (time_eq f g h)
+pub frontier_is : (f g : Option ℕ) → frontier_eq f g ≡ true → f ≡ g
+frontier_is None None h = refl
+frontier_is (Some a) (Some b) h = ap Some (eqb-true a b h)
+frontier_is None (Some b) h = cc
+frontier_is (Some a) None h = cc
 
 keys_eq : (us bs : List PartKey) → same_keys us bs ≡ true → us ≡ bs
 keys_eq [] [] h = refl
@@ -73,16 +71,17 @@ batch_fields a b l u s p r = made_batch a.desc.lower b.desc.lower a.desc.upper b
 batch_eq : (a b : Batch) → same_batch a b ≡ true → a ≡ b
 batch_eq a b h =
     let (p1, q1) = and_true (eqb a.desc.lower b.desc.lower) _ h in
-    let (p2, q2) = and_true (same_frontier a.desc.upper b.desc.upper) _ q1 in
+    let (p2, q2) = and_true (frontier_eq a.desc.upper b.desc.upper) _ q1 in
     let (p3, q3) = and_true (eqb a.desc.since b.desc.since) _ q2 in
     let (p4, q4) = and_true (same_keys a.parts b.parts) _ q3 in
-    batch_fields a b (eqb-true _ _ p1) (frontier_eq _ _ p2) (eqb-true _ _ p3) (keys_eq _ _ p4) (eqb-true _ _ q4)
+    batch_fields a b (eqb-true _ _ p1) (frontier_is _ _ p2) (eqb-true _ _ p3) (keys_eq _ _ p4) (eqb-true _ _ q4)
 
 are_keys_is : (shard : ShardId) (member token i : ℕ) (ks : List PartKey) → are_keys shard member token i ks ≡ true → AreKeys shard member token i ks
+unfolding make_key
 are_keys_is shard member token i [] h = tt
 are_keys_is shard member token i (k ∷ ks) h =
-    let (p, q) = and_true (same_key k (record { shard = shard; member = member; token = token; index = i })) _ h in
-    (key_eq k _ p, are_keys_is shard member token (suc i) ks q)
+    let (p, q) = and_true (is_key shard member token i k) _ h in
+    (key_eq k (make_key shard member token i) p, are_keys_is shard member token (suc i) ks q)
 
 part_count_is : (rows parts : ℕ) → is_part_count rows parts ≡ true → IsPartCount rows parts
 part_count_is rows parts h = let (p, q) = and_true (leb rows (4096 * parts)) _ h in (leb-true _ _ p, ltb-true _ _ q)
@@ -110,14 +109,16 @@ record Found (n : ℕ) (ms : List Member) (fits : Kind → Bool) (next : Member 
 found : (n : ℕ) (ms : List Member) (fits : Kind → Bool) (next : Member → Option Refusal) → of_member (member_of n ms) fits next ≡ None → Found n ms fits next
 found n [] fits next h = cc
 found n (m ∷ ms) fits next h = elim (bool_cases (eqb m.number n)) [
-    inl e ↦
+  | inl e ↦
       let h2 : cond (fits m.kind) (next m) (Some NoMember) ≡ None = rw e at h in
       elim (bool_cases (fits m.kind)) [
-        inl k ↦ record { member = m; stands = inl (eqb-true m.number n e, refl); kind = k; rest = rw k at h2 }
-      | inr k ↦ absurd (let h3 : Some NoMember ≡ None = rw k at h2 in cc) ]
+        | inl k ↦ record { member = m; stands = inl (eqb-true m.number n e, refl); kind = k; rest = rw k at h2 }
+        | inr k ↦ absurd (let h3 : Some NoMember ≡ None = rw k at h2 in cc)
+      ]
   | inr e ↦
       let g = found n ms fits next (rw e at h) in
-      record { member = g.member; stands = inr g.stands; kind = g.kind; rest = g.rest } ]
+      record { member = g.member; stands = inr g.stands; kind = g.kind; rest = g.rest }
+]
 
 stands_with : (n : ℕ) (ms : List Member) (m : Member) (P : Member → Type 0) → P m → Among (λ w. (w.number ≡ n) × (w ≡ m)) ms → Stands n P ms
 stands_with n ms m P p h = among_map (λ (w : Member). (w.number ≡ n) × (w ≡ m)) (λ (w : Member). (w.number ≡ n) × P w) ms (λ w q. (q.0, subst P (sym q.1) p)) h
@@ -131,17 +132,25 @@ any_among : (now : ℕ) (ms : List Member) → list_any (is_out now) ms ≡ true
 any_among now [] h = cc
 any_among now (m ∷ ms) h = elim (bool_cases (is_out now m)) [ inl e ↦ inl e | inr e ↦ inr (any_among now ms (rw e at h)) ]
 
+mapped_some : (f : ℕ → ℕ) (o : Option ℕ) → is_some (option_map f o) ≡ is_some o
+mapped_some f None = refl
+mapped_some f (Some n) = refl
+
+follows_next : (left right a b : Batch) (bs : List Batch) → (same_batch a left && same_batch b right) ≡ false → follows left right (a ∷ b ∷ bs) ≡ follows left right (b ∷ bs)
+follows_next left right a b bs e = rw e (mapped_some (λ n. n + 1) (adjacent_place (λ x y. same_batch x left && same_batch y right) (b ∷ bs)))
+
 split_at : (left right : Batch) (bs : List Batch) → follows left right bs ≡ true → (before : List Batch) × (behind : List Batch) × (bs ≡ before ++ left ∷ right ∷ behind)
 split_at left right [] h = cc
 split_at left right (a ∷ []) h = cc
 split_at left right (a ∷ b ∷ bs) h = elim (bool_cases (same_batch a left && same_batch b right)) [
-    inl e ↦
+  | inl e ↦
       let (p, q) = and_true (same_batch a left) _ e in
       let e1 = batch_eq a left p in let e2 = batch_eq b right q in
       ([], bs, cc)
   | inr e ↦
-      let (before, behind, eq) = split_at left right (b ∷ bs) (rw e at h) in
-      (a ∷ before, behind, ap (λ us. a ∷ us) eq) ]
+      let (before, behind, eq) = split_at left right (b ∷ bs) (sym (follows_next left right a b bs e) ∙ h) in
+      (a ∷ before, behind, ap (λ us. a ∷ us) eq)
+]
 
 join_shape : (s : ShardState) (kind : Kind) (now lease : ℕ) → is_shaped s (Join kind now lease) ≡ true → JoinShape kind now lease
 join_shape s Writer now lease h = let (p, q) = and_true (eqb now 0) _ h in (eqb-true now 0 p, eqb-true lease 0 q)
@@ -159,16 +168,25 @@ append_shape s member token expected new parts rows weight h =
 
 merge_shape : (s : ShardState) (member token : ℕ) (left right merged : Batch) → is_shaped s (Merge member token left right merged) ≡ true → MergeShape s member token left right merged
 merge_shape s member token left right merged h =
-    let (p1, q1) = and_true (same_frontier left.desc.upper (Some right.desc.lower)) _ h in
+    let (p1, q1) = and_true (frontier_eq left.desc.upper (Some right.desc.lower)) _ h in
     let (p2, q2) = and_true (eqb merged.desc.lower left.desc.lower) _ q1 in
-    let (p3, q3) = and_true (same_frontier merged.desc.upper right.desc.upper) _ q2 in
+    let (p3, q3) = and_true (frontier_eq merged.desc.upper right.desc.upper) _ q2 in
     let (p4, q4) = and_true (leb left.desc.since merged.desc.since) _ q3 in
     let (p5, q5) = and_true (leb right.desc.since merged.desc.since) _ q4 in
     let (p6, q6) = and_true (leb merged.desc.since s.since) _ q5 in
     let (p7, q7) = and_true (leb merged.rows (left.rows + right.rows)) _ q6 in
     let (p8, q8) = and_true (are_keys s.shard member token 0 merged.parts) _ q7 in
-    record { joins = frontier_eq _ _ p1; lower = eqb-true _ _ p2; upper = frontier_eq _ _ p3; from_left = leb-true _ _ p4; from_right = leb-true _ _ p5; since = leb-true _ _ p6; rows = leb-true _ _ p7;
-      keys = are_keys_is s.shard member token 0 merged.parts p8; count = part_count_is merged.rows (length merged.parts) q8 }
+    record {
+      joins = frontier_is _ _ p1;
+      lower = eqb-true _ _ p2;
+      upper = frontier_is _ _ p3;
+      from_left = leb-true _ _ p4;
+      from_right = leb-true _ _ p5;
+      since = leb-true _ _ p6;
+      rows = leb-true _ _ p7;
+      keys = are_keys_is s.shard member token 0 merged.parts p8;
+      count = part_count_is merged.rows (length merged.parts) q8;
+    }
 
 not_leb : (a b : ℕ) → leb a b ≡ false → b < a
 not_leb a b h = elim (leb_tells a b) [ inl p ↦ absurd (let q = p.0 in cc) | inr p ↦ p.1 ]
@@ -189,27 +207,41 @@ makes_by s (Advance member to) sh h =
     let le : f.member.since < suc to = not_leb (suc to) f.member.since back in
     (_, record { stands = stands_with member s.members f.member (λ m. (is_reader m.kind ≡ true) × (m.since ≤ to)) (f.kind, omega arith) f.stands; effect = refl })
 makes_by s (Expire now) sh h = elim (bool_cases (list_any (is_out now) s.members)) [
-    inl e ↦ (_, record { due = any_among now s.members e; effect = refl })
-  | inr e ↦ absurd (let h2 : Some NotDue ≡ None = rw e at h in cc) ]
+  | inl e ↦ (_, record { due = any_among now s.members e; effect = refl })
+  | inr e ↦ absurd (let h2 : Some NotDue ≡ None = rw e at h in cc)
+]
 makes_by s (Append member token expected new parts rows weight) sh h =
-    let next : Member → Option Refusal = λ m. cond (leb token m.token) (Some (TokenOld m.token)) (cond (not (same_frontier s.upper (Some expected))) (Some (UpperIs s.upper)) (cond (ltb (2 ^ 62) (s.weight + weight)) (Some (Heavy s.weight)) None)) in
+    let next : Member → Option Refusal = λ m. cond (leb token m.token) (Some (TokenOld m.token)) (cond (not (frontier_eq s.upper (Some expected))) (Some (UpperIs s.upper)) (cond (ltb (2 ^ 62) (s.weight + weight)) (Some (Heavy s.weight)) None)) in
     let f = found member s.members is_writer next h in
     let (old, n1) = none_then (leb token f.member.token) _ _ f.rest in
-    let (up, n2) = none_then (not (same_frontier s.upper (Some expected))) _ _ n1 in
+    let (up, n2) = none_then (not (frontier_eq s.upper (Some expected))) _ _ n1 in
     let (heavy, n3) = none_then (ltb (2 ^ 62) (s.weight + weight)) _ _ n2 in
-    let le : s.weight + weight < suc (2 ^ 62) = not_leb (suc (2 ^ 62)) (s.weight + weight) heavy in
-    (_, record { shape = append_shape s member token expected new parts rows weight sh;
-      stands = stands_with member s.members f.member (λ m. (is_writer m.kind ≡ true) × (m.token < token)) (f.kind, not_leb token f.member.token old) f.stands;
-      fits = frontier_eq s.upper (Some expected) (not_false _ up); light = omega arith; effect = refl })
+    let le : s.weight + weight < suc (2 ^ 62) = not_leb (suc (2 ^ 62)) (s.weight + weight) heavy in (
+      _,
+      record {
+        shape = append_shape s member token expected new parts rows weight sh;
+        stands = stands_with member s.members f.member (λ m. (is_writer m.kind ≡ true) × (m.token < token)) (f.kind, not_leb token f.member.token old) f.stands;
+        fits = frontier_is s.upper (Some expected) (not_false _ up);
+        light = omega arith;
+        effect = refl;
+      },
+    )
 makes_by s (Merge member token left right merged) sh h =
     let next : Member → Option Refusal = λ m. cond (leb token m.token) (Some (TokenOld m.token)) (cond (follows left right s.batches) None (Some NotPresent)) in
     let f = found member s.members is_keeper next h in
     let (old, n1) = none_then (leb token f.member.token) _ _ f.rest in
     let there : follows left right s.batches ≡ true = elim (bool_cases (follows left right s.batches)) [ inl e ↦ e | inr e ↦ absurd (let n2 : Some NotPresent ≡ None = rw e at n1 in cc) ] in
-    let (before, behind, eq) = split_at left right s.batches there in
-    (_, record { shape = merge_shape s member token left right merged sh;
-      stands = stands_with member s.members f.member (λ m. (m.kind ≡ Keeper) × (m.token < token)) (keeper_is f.member.kind f.kind, not_leb token f.member.token old) f.stands;
-      before = before; behind = behind; present = eq; effect = refl })
+    let (before, behind, eq) = split_at left right s.batches there in (
+      _,
+      record {
+        shape = merge_shape s member token left right merged sh;
+        stands = stands_with member s.members f.member (λ m. (m.kind ≡ Keeper) × (m.token < token)) (keeper_is f.member.kind f.kind, not_leb token f.member.token old) f.stands;
+        before = before;
+        behind = behind;
+        present = eq;
+        effect = refl;
+      },
+    )
 
 -- where none of the ten refusals comes the transition applies
 pub applies_unrefused : (s : ShardState) (x : Transition) → IsState s → s.number < 2 ^ 64 → refusal_of s x ≡ None → (s2 : ShardState) × Applies s x s2
@@ -223,24 +255,24 @@ applies_unrefused s x r small h =
 key_same : (k : PartKey) → same_key k k ≡ true
 key_same k = rw (eq-eqb k.shard.0 k.shard.0 refl, eq-eqb k.member k.member refl, eq-eqb k.token k.token refl, eq-eqb k.index k.index refl) refl
 
-time_same : (o : Option ℕ) → same_time o o ≡ true
-time_same None = refl
-time_same (Some n) = eq-eqb n n refl
+frontier_same : (o : Option ℕ) → frontier_eq o o ≡ true
+frontier_same None = refl
+frontier_same (Some n) = eq-eqb n n refl
 
-frontier_same : (f g : Option ℕ) → f ≡ g → same_frontier f g ≡ true
-frontier_same f g e = subst (λ (h : Option ℕ). same_frontier f h ≡ true) e (time_same f)
+frontier_self : (f g : Option ℕ) → f ≡ g → frontier_eq f g ≡ true
+frontier_self f g e = subst (λ (h : Option ℕ). frontier_eq f h ≡ true) e (frontier_same f)
 
 keys_same : (ks : List PartKey) → same_keys ks ks ≡ true
 keys_same [] = refl
 keys_same (k ∷ ks) = rw (key_same k, keys_same ks) refl
 
 batch_same : (b : Batch) → same_batch b b ≡ true
-batch_same b = rw (eq-eqb b.desc.lower b.desc.lower refl, time_same b.desc.upper, eq-eqb b.desc.since b.desc.since refl, keys_same b.parts, eq-eqb b.rows b.rows refl) refl
+batch_same b = rw (eq-eqb b.desc.lower b.desc.lower refl, frontier_same b.desc.upper, eq-eqb b.desc.since b.desc.since refl, keys_same b.parts, eq-eqb b.rows b.rows refl) refl
 
 keys_are : (shard : ShardId) (member token i : ℕ) (ks : List PartKey) → AreKeys shard member token i ks → are_keys shard member token i ks ≡ true
 keys_are shard member token i [] h = refl
 keys_are shard member token i (k ∷ ks) h =
-    let e : same_key k (record { shard = shard; member = member; token = token; index = i }) ≡ true = subst (λ (q : PartKey). same_key k q ≡ true) h.0 (key_same k) in
+    let e : is_key shard member token i k ≡ true = subst (λ (q : PartKey). same_key k q ≡ true) h.0 (key_same k) in
     rw (e, keys_are shard member token (suc i) ks h.1) refl
 
 both_true : (a b : Bool) → a ≡ true → b ≡ true → (a && b) ≡ true
@@ -275,8 +307,8 @@ among_any now (m ∷ ms) (inr h) = elim (bool_cases (is_out now m)) [ inl e ↦ 
 
 follows_is : (left right : Batch) (before behind : List Batch) → follows left right (before ++ left ∷ right ∷ behind) ≡ true
 follows_is left right [] behind = rw (batch_same left, batch_same right) refl
-follows_is left right (a ∷ []) behind = elim (bool_cases (same_batch a left && same_batch left right)) [ inl e ↦ rw e refl | inr e ↦ rw e (follows_is left right [] behind) ]
-follows_is left right (a ∷ b ∷ before) behind = elim (bool_cases (same_batch a left && same_batch b right)) [ inl e ↦ rw e refl | inr e ↦ rw e (follows_is left right (b ∷ before) behind) ]
+follows_is left right (a ∷ []) behind = elim (bool_cases (same_batch a left && same_batch left right)) [ inl e ↦ rw e refl | inr e ↦ follows_next left right a left (right ∷ behind) e ∙ follows_is left right [] behind ]
+follows_is left right (a ∷ b ∷ before) behind = elim (bool_cases (same_batch a left && same_batch b right)) [ inl e ↦ rw e refl | inr e ↦ follows_next left right a b (before ++ left ∷ right ∷ behind) e ∙ follows_is left right (b ∷ before) behind ]
 
 shaped_append : (s : ShardState) (member token expected : ℕ) (new : Option ℕ) (parts : List PartKey) (rows weight : ℕ) → AppendShape s.shard member token expected new parts rows weight → is_shaped s (Append member token expected new parts rows weight) ≡ true
 shaped_append s member token expected new parts rows weight h =
@@ -284,8 +316,8 @@ shaped_append s member token expected new parts rows weight h =
 
 shaped_merge : (s : ShardState) (member token : ℕ) (left right merged : Batch) → MergeShape s member token left right merged → is_shaped s (Merge member token left right merged) ≡ true
 shaped_merge s member token left right merged h =
-    both_true _ _ (frontier_same _ _ h.joins) (both_true _ _ (eq-eqb _ _ h.lower) (both_true _ _ (frontier_same _ _ h.upper) (both_true _ _ (le-leb _ _ h.from_left) (both_true _ _ (le-leb _ _ h.from_right)
-      (both_true _ _ (le-leb _ _ h.since) (both_true _ _ (le-leb _ _ h.rows) (both_true _ _ (keys_are s.shard member token 0 merged.parts h.keys) (count_is merged.rows (length merged.parts) h.count))))))))
+    both_true _ _ (frontier_self _ _ h.joins) (both_true _ _ (eq-eqb _ _ h.lower) (both_true _ _ (frontier_self _ _ h.upper) (both_true _ _ (le-leb _ _ h.from_left) (both_true _ _ (le-leb _ _ h.from_right)
+    (both_true _ _ (le-leb _ _ h.since) (both_true _ _ (le-leb _ _ h.rows) (both_true _ _ (keys_are s.shard member token 0 merged.parts h.keys) (count_is merged.rows (length merged.parts) h.count))))))))
 
 shaped_join : (s : ShardState) (kind : Kind) (now lease : ℕ) → JoinShape kind now lease → is_shaped s (Join kind now lease) ≡ true
 shaped_join s Writer now lease h = both_true _ _ (eq-eqb now 0 h.0) (eq-eqb lease 0 h.1)
@@ -314,13 +346,13 @@ by_kind s s2 (Advance member to) r m = found_none member s.members is_reader (λ
     (λ w p. (p.0, let le : w.since ≤ to = p.1 in rw (leb_not (suc to) w.since (omega arith)) refl))
 by_kind s s2 (Expire now) r m = rw (among_any now s.members m.due) refl
 by_kind s s2 (Append member token expected new parts rows weight) r m =
-    found_none member s.members is_writer (λ w. cond (leb token w.token) (Some (TokenOld w.token)) (cond (not (same_frontier s.upper (Some expected))) (Some (UpperIs s.upper)) (cond (ltb (2 ^ 62) (s.weight + weight)) (Some (Heavy s.weight)) None)))
-      (λ w. (is_writer w.kind ≡ true) × (w.token < token)) r m.stands
-      (λ w p. (p.0, let light = m.light in rw (leb_not token w.token p.1, frontier_same s.upper (Some expected) m.fits, leb_not (suc (2 ^ 62)) (s.weight + weight) (omega arith)) refl))
+    found_none member s.members is_writer (λ w. cond (leb token w.token) (Some (TokenOld w.token)) (cond (not (frontier_eq s.upper (Some expected))) (Some (UpperIs s.upper)) (cond (ltb (2 ^ 62) (s.weight + weight)) (Some (Heavy s.weight)) None)))
+    (λ w. (is_writer w.kind ≡ true) × (w.token < token)) r m.stands
+    (λ w p. (p.0, let light = m.light in rw (leb_not token w.token p.1, frontier_self s.upper (Some expected) m.fits, leb_not (suc (2 ^ 62)) (s.weight + weight) (omega arith)) refl))
 by_kind s s2 (Merge member token left right merged) r m =
     found_none member s.members is_keeper (λ w. cond (leb token w.token) (Some (TokenOld w.token)) (cond (follows left right s.batches) None (Some NotPresent)))
-      (λ w. (w.kind ≡ Keeper) × (w.token < token)) r m.stands
-      (λ w p. (is_keeper-Keeper w.kind p.0, rw (leb_not token w.token p.1, subst (λ (bs : List Batch). follows left right bs ≡ true) (sym m.present) (follows_is left right m.before m.behind)) refl))
+    (λ w. (w.kind ≡ Keeper) × (w.token < token)) r m.stands
+    (λ w p. (is_keeper-Keeper w.kind p.0, rw (leb_not token w.token p.1, subst (λ (bs : List Batch). follows left right bs ≡ true) (sym m.present) (follows_is left right m.before m.behind)) refl))
 
 -- a transition that applies meets none of the ten refusals
 pub unrefused : (s s2 : ShardState) (x : Transition) → IsState s → Applies s x s2 → refusal_of s x ≡ None

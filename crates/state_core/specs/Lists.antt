@@ -1,5 +1,5 @@
 -- Lists of which some element has a property, or none is twice there.
-use Rattle.std.specs.Prelude.{List, [], ◌∷◌, ◌⊎◌, ⊤, ⊥}
+use Rattle.std.specs.Prelude.{List, [], ◌∷◌, ◌⊎◌, ⊤}
 
 -- some element has P
 abbrev pub Among : {A : Type 0} → (A → Type 0) → List A → Type 0

@@ -1,5 +1,5 @@
 -- The transitions of a state: what each asks of it, and what it makes of it.
-use Rattle.std.specs.Prelude.{⊤, ⊥, ◌≡◌, ℕ, ◌+◌, ◌<◌, ◌≤◌, ◌^◌, suc, max, Bool, true, false, List, [], ◌∷◌, ◌++◌, length, Option, Some, None, nat_le, ◌==◌, if◌then◌else◌, ◌&&◌, not}
+use Rattle.std.specs.Prelude.{⊤, ◌≡◌, ℕ, ◌+◌, ◌<◌, ◌≤◌, ◌^◌, suc, max, Bool, true, false, List, [], ◌∷◌, ◌++◌, length, Option, Some, None, nat_le, ◌==◌, if◌then◌else◌, ◌&&◌, not}
 use Rattle.state_core.specs.Lists.{Among}
 use Rattle.update_core.specs.Frontiers.{covers}
 use Rattle.store_core.specs.declared.shards.ShardId.{ShardId}
@@ -54,8 +54,14 @@ since_of Keeper n = 0
 -- the member that joins
 abbrev pub joining : ShardState → Kind → ℕ → ℕ → Member
 joining s kind now lease = record {
-  number = s.next_member; kind = kind; since = since_of kind s.since; hold = beat_of kind (s.number + 1);
-  beat = beat_of kind now; lease = beat_of kind lease; token = 0 }
+  number = s.next_member;
+  kind = kind;
+  since = since_of kind s.since;
+  hold = beat_of kind (s.number + 1);
+  beat = beat_of kind now;
+  lease = beat_of kind lease;
+  token = 0;
+}
 
 -- the keys (shard, member, token, i) from i on
 abbrev pub AreKeys : ShardId → ℕ → ℕ → ℕ → List PartKey → Type 0
@@ -104,14 +110,19 @@ pub record Leaves (s : ShardState) (member : ℕ) (s2 : ShardState) : Type 0 whe
 -- a lease begins again
 pub record Renews (s : ShardState) (member now : ℕ) (s2 : ShardState) : Type 0 where
   pub stands : Stands member (λ m. is_writer m.kind ≡ false) s.members
-  pub effect : s2 ≡ record s { number = s.number + 1;
-    members = changed member (λ m. record m { beat = max m.beat now; hold = s.number + 1 }) s.members }
+  pub effect : s2 ≡ record s {
+    number = s.number + 1;
+    members = changed member (λ m. record m { beat = max m.beat now; hold = s.number + 1 }) s.members;
+  }
 
 -- a reader advances
 pub record Advances (s : ShardState) (member to : ℕ) (s2 : ShardState) : Type 0 where
   pub stands : Stands member (λ m. (is_reader m.kind ≡ true) × (m.since ≤ to)) s.members
-  pub effect : s2 ≡ record s { number = s.number + 1; members = changed member (λ m. record m { since = to }) s.members;
-    since = raised s.since (changed member (λ m. record m { since = to }) s.members) }
+  pub effect : s2 ≡ record s {
+    number = s.number + 1;
+    members = changed member (λ m. record m { since = to }) s.members;
+    since = raised s.since (changed member (λ m. record m { since = to }) s.members);
+  }
 
 -- the leases that have run out end
 pub record Expires (s : ShardState) (now : ℕ) (s2 : ShardState) : Type 0 where
@@ -125,9 +136,13 @@ pub record Appends (s : ShardState) (member token expected : ℕ) (new : Option 
   pub stands : Stands member (λ m. (is_writer m.kind ≡ true) × (m.token < token)) s.members
   pub fits : s.upper ≡ Some expected
   pub light : s.weight + weight ≤ 2 ^ 62
-  pub effect : s2 ≡ record s { number = s.number + 1; upper = new; weight = s.weight + weight;
+  pub effect : s2 ≡ record s {
+    number = s.number + 1;
+    upper = new;
+    weight = s.weight + weight;
     members = changed member (λ m. record m { token = token }) s.members;
-    batches = s.batches ++ record { desc = record { lower = expected; upper = new; since = 0 }; parts = parts; rows = rows } ∷ [] }
+    batches = s.batches ++ record { desc = record { lower = expected; upper = new; since = 0 }; parts = parts; rows = rows } ∷ [];
+  }
 
 -- a batch takes the place of two
 pub record Merges (s : ShardState) (member token : ℕ) (left right merged : Batch) (s2 : ShardState) : Type 0 where
@@ -136,8 +151,11 @@ pub record Merges (s : ShardState) (member token : ℕ) (left right merged : Bat
   pub before : List Batch
   pub behind : List Batch
   pub present : s.batches ≡ before ++ left ∷ right ∷ behind
-  pub effect : s2 ≡ record s { number = s.number + 1; batches = before ++ merged ∷ behind;
-    members = changed member (λ m. record m { token = token; hold = s.number + 1 }) s.members }
+  pub effect : s2 ≡ record s {
+    number = s.number + 1;
+    batches = before ++ merged ∷ behind;
+    members = changed member (λ m. record m { token = token; hold = s.number + 1 }) s.members;
+  }
 
 -- what each transition asks of a state and makes of it
 abbrev pub Makes : ShardState → Transition → ShardState → Type 0

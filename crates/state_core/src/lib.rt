@@ -2,6 +2,7 @@
 #![tactic(auto)]
 
 mod kinds;
+pub mod laws;
 mod member_lists;
 mod members;
 mod refusals;
