@@ -1,0 +1,15 @@
+//! The state of a shard, and the transitions that make one state of another.
+#![tactic(auto)]
+
+mod kinds;
+pub mod laws;
+mod member_lists;
+mod members;
+mod refusals;
+mod transitions;
+
+pub use kinds::Kind;
+pub use member_lists::MemberList;
+pub use members::Member;
+pub use refusals::Refusal;
+pub use transitions::Transition;
