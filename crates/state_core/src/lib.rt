@@ -6,10 +6,12 @@ pub mod laws;
 mod member_lists;
 mod members;
 mod refusals;
+mod states;
 mod transitions;
 
 pub use kinds::Kind;
 pub use member_lists::MemberList;
 pub use members::Member;
 pub use refusals::Refusal;
+pub use states::State;
 pub use transitions::Transition;
