@@ -5,5 +5,4 @@ pub mod Batches
 pub mod Rules
 pub mod Determined
 pub mod Refused
-pub mod Tokens
 pub mod Rising
