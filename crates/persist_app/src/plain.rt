@@ -106,9 +106,9 @@ pub fn persist_plain<So: Source, Si: Sink, S: Store, K: Clock>(
         × Gains (Si.taken out.old) (Si.taken out.new) input_failed_text }
     // 5: a put failed.
     ensures output { result.status ≡ 5 → Rose (Si.faults out.old) (Si.faults out.new) }
-    // 6: a store call failed, and no other was made after it.
+    // 6: a store call failed; where the history is told, it is the last call.
     ensures store_failed { result.status ≡ 6 → StoreFailed (S.history result.store) (S.faults store) (S.faults result.store) }
-    // 9: what the store holds isn't what was set; no store that tells its history does so.
+    // 9: never over a store that tells its history.
     ensures damaged { result.status ≡ 9 → S.history store ≡ None }
     // At most one byte more than a feed may have is read, and each read but the last takes one.
     ensures reading { ReadsUpTo (MAX_BYTES + 1) (So.left src.old) (So.left src.new) (So.reads src.old) (So.reads src.new) }
