@@ -1,10 +1,10 @@
 -- The plain collection at work, by computation.
-use Rattle.std.proofs.Common.{◌≡◌, ℕ, ◌^◌, ℤ, pos, negsuc, Some, List, [], ◌∷◌, refl}
+use Rattle.std.proofs.Common.{◌≡◌, ℕ, ◌^◌, ℤ, pos, negsuc, Some, None, List, [], ◌∷◌, refl}
 use Rattle.std.specs.Prelude.{codes}
 use Rattle.update_core.specs.declared.rows.Row.{Row}
 use Rattle.update_core.specs.declared.updates.Update.{Update}
 use Rattle.update_core.specs.Totals.{consolidated}
-use Rattle.update_core.specs.Collections.{Collection, empty_collection, accepted, mismatch, heavy, append_answer, after_append, content, late, snapshot_answer}
+use Rattle.update_core.specs.Collections.{Collection, empty_collection, accepted, mismatch, heavy, append_answer, after_append, content, late, snapshot_answer, behind, ended, quiet, step, listen_answer}
 
 abbrev update : List ℕ → ℕ → ℤ → Update
 update datum time diff = record { datum = datum; time = time; diff = diff }
@@ -45,3 +45,24 @@ full = record { updates = []; since = 0; upper = Some 0; weight = 2 ^ 62 }
 append_past_the_weight : append_answer full 0 1 ≡ heavy (2 ^ 62)
 unfolding full
 append_past_the_weight = refl
+
+-- the basket from 4 on, in time
+basket_from_4 : listen_answer basket (Some 4) ≡ step (update (codes "pear") 4 (pos 1) ∷ update (codes "apple") 7 (negsuc 0) ∷ []) (Some 10)
+unfolding consolidated
+basket_from_4 = refl
+
+basket_from_its_upper : listen_answer basket (Some 10) ≡ quiet (Some 10)
+basket_from_its_upper = refl
+
+basket_from_its_since : listen_answer basket (Some 0) ≡ behind 0
+basket_from_its_since = refl
+
+basket_from_closed : listen_answer basket None ≡ quiet (Some 10)
+basket_from_closed = refl
+
+closed_basket : Collection
+closed_basket = after_append basket [] 10 None 0
+
+closed_basket_from_closed : listen_answer closed_basket None ≡ ended
+unfolding closed_basket
+closed_basket_from_closed = refl

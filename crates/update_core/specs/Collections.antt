@@ -1,9 +1,9 @@
 -- The plain collection: what a collection is to those who use it.
-use Rattle.std.specs.Prelude.{ℕ, ◌+◌, ◌^◌, Option, Some, List, [], ◌++◌, nat_lt, nat_le, if◌then◌else◌}
+use Rattle.std.specs.Prelude.{ℕ, ◌+◌, ◌^◌, Option, Some, None, List, [], ◌++◌, ◌&&◌, Bool, true, false, nat_lt, nat_le, if◌then◌else◌}
 use Rattle.update_core.specs.declared.rows.Row.{Row}
 use Rattle.update_core.specs.declared.updates.Update.{Update}
-use Rattle.update_core.specs.Frontiers.{covers, is_at}
-use Rattle.update_core.specs.Updates.{cons, sum_of}
+use Rattle.update_core.specs.Frontiers.{covers, is_at, is_from}
+use Rattle.update_core.specs.Updates.{cons, sum_of, slice_of}
 
 -- The accepted updates, the time up to which they may have been moved, the frontier up to which they are known,
 -- and the sum of the absolute differences that were handed in.
@@ -48,3 +48,25 @@ pub data SnapshotAnswer : Type 0 where
 -- Early exactly where the time is before the since; else late exactly where the upper doesn't cover it; else the content at the time.
 abbrev pub snapshot_answer : Collection → ℕ → SnapshotAnswer
 snapshot_answer c t = if nat_lt t c.since then early c.since else (if covers c.upper t then content (sum_of c.updates t) else late c.upper)
+
+-- what a listen is answered
+pub data ListenAnswer : Type 0 where
+  behind : ℕ → ListenAnswer
+  ended : ListenAnswer
+  quiet : Option ℕ → ListenAnswer
+  step : List Update → Option ℕ → ListenAnswer
+
+-- the frontier is after all times
+abbrev pub is_closed : Option ℕ → Bool
+is_closed None = true
+is_closed (Some t) = false
+
+-- the upper is past the frontier; none is past Closed
+abbrev pub is_past : Option ℕ → Option ℕ → Bool
+is_past upper None = false
+is_past upper (Some f) = covers upper f
+
+-- Behind exactly where the since is from the frontier on; else ended exactly where the frontier and the upper are Closed; else a step
+-- with the updates from the frontier up to the upper exactly where the upper is past the frontier; else quiet.
+abbrev pub listen_answer : Collection → Option ℕ → ListenAnswer
+listen_answer c f = if is_from f c.since then behind c.since else (if is_closed f && is_closed c.upper then ended else (if is_past c.upper f then step (slice_of c.updates f c.upper) c.upper else quiet c.upper))
