@@ -6,3 +6,5 @@ pub mod Rules
 pub mod Determined
 pub mod Refused
 pub mod Rising
+pub mod MemberLoops
+pub mod Following

@@ -6,6 +6,7 @@ pub mod laws;
 mod member_lists;
 mod members;
 mod refusals;
+mod refusing;
 mod states;
 mod transitions;
 

@@ -1,7 +1,9 @@
 // State: the state of a shard.
-ghost use Rattle.std.specs.Prelude.{◌≡◌, IfOk};
-ghost use Rattle.state_core.specs.States.{IsState};
-ghost use Rattle.state_core.specs.Steps.{init};
+ghost use Rattle.std.specs.Prelude.{◌≡◌, IfOk, option_copied};
+ghost use Rattle.std.specs.List.{list_any};
+ghost use Rattle.state_core.specs.Refusals.{member_of};
+ghost use Rattle.state_core.specs.States.{IsState, floor};
+ghost use Rattle.state_core.specs.Steps.{init, is_out};
 
 use crate::member_lists::MemberList;
 use crate::members::Member;
@@ -99,6 +101,28 @@ impl State {
         ensures state { IsState self.now }
     {
         self.members.as_slice()
+    }
+
+    /// The member with a number, where it stands.
+    pub fn member(&self, number: u64) -> Option<&Member>
+        ensures { option_copied result ≡ member_of number self.now.members }
+    {
+        self.members.find(number)
+    }
+
+    /// The least hold of the readers and keepers, or the state's number where none stands: the first version that
+    /// someone may still need.
+    pub fn floor(&self) -> u64
+        ensures { result ≡ floor self.now }
+    {
+        self.members.least_hold(self.number)
+    }
+
+    /// Whether the lease of some member has run out at the moment `now`.
+    pub fn is_due(&self, now: u64) -> bool
+        ensures { result ≡ list_any (is_out now) self.now.members }
+    {
+        self.members.is_due(now)
     }
 
     /// The batches.
