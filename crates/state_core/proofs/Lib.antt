@@ -8,3 +8,5 @@ pub mod Refused
 pub mod Rising
 pub mod MemberLoops
 pub mod Following
+pub mod MemberChanges
+pub mod Applied

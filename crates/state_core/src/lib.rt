@@ -1,6 +1,7 @@
 //! The state of a shard, and the transitions that make one state of another.
 #![tactic(auto)]
 
+mod applying;
 mod kinds;
 pub mod laws;
 mod member_lists;

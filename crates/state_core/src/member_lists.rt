@@ -206,4 +206,59 @@ impl MemberList {
     {
         drop_out(&mut self.items, now);
     }
+
+    /// A reader's or keeper's lease begins again at the moment `now`, and it holds the version `hold`. It takes no memory.
+    pub fn renew(&mut self, number: u64, now: u64, hold: u64)
+        requires { MembersRise self.old }
+        ensures { self.new ≡ changed number (λ m. record m { beat = max m.beat now; hold = hold }) self.old }
+    {
+        let Some(&member) = self.find(number) else {
+            return;
+        };
+        self.replace(Member {
+            beat: member.beat.max(now),
+            hold,
+            ..member
+        });
+    }
+
+    /// A member's since becomes `to`. It takes no memory.
+    pub fn advance(&mut self, number: u64, to: u64)
+        requires { MembersRise self.old }
+        ensures { self.new ≡ changed number (λ m. record m { since = to }) self.old }
+    {
+        let Some(&member) = self.find(number) else {
+            return;
+        };
+        self.replace(Member {
+            since: to,
+            ..member
+        });
+    }
+
+    /// A member's tokens up to `token` are spent. It takes no memory.
+    pub fn spend(&mut self, number: u64, token: u64)
+        requires { MembersRise self.old }
+        ensures { self.new ≡ changed number (λ m. record m { token = token }) self.old }
+    {
+        let Some(&member) = self.find(number) else {
+            return;
+        };
+        self.replace(Member { token, ..member });
+    }
+
+    /// A member's tokens up to `token` are spent, and it holds the version `hold`. It takes no memory.
+    pub fn spend_and_hold(&mut self, number: u64, token: u64, hold: u64)
+        requires { MembersRise self.old }
+        ensures { self.new ≡ changed number (λ m. record m { token = token; hold = hold }) self.old }
+    {
+        let Some(&member) = self.find(number) else {
+            return;
+        };
+        self.replace(Member {
+            token,
+            hold,
+            ..member
+        });
+    }
 }

@@ -16,14 +16,14 @@ use update_core::Frontier;
 /// The state of a shard: its members, and the batches of its collection. Each state keeps the rules of states.
 #[derive(Drop)]
 pub struct State {
-    shard: ShardId,
-    number: u64,
-    next_member: u64,
-    since: u64,
-    upper: Frontier,
-    weight: u64,
-    members: MemberList,
-    spine: Spine,
+    pub(crate) shard: ShardId,
+    pub(crate) number: u64,
+    pub(crate) next_member: u64,
+    pub(crate) since: u64,
+    pub(crate) upper: Frontier,
+    pub(crate) weight: u64,
+    pub(crate) members: MemberList,
+    pub(crate) spine: Spine,
 }
 
 impl Model for State {
