@@ -10,3 +10,5 @@ pub mod MemberLoops
 pub mod Following
 pub mod MemberChanges
 pub mod Applied
+pub mod Staying
+pub mod NoMemory

@@ -14,6 +14,12 @@ takes_memory (Append member token expected new parts rows weight) = true
 takes_memory (Merge member token left right merged) = true
 takes_memory _ = false
 
+-- whether a transition brings a batch
+abbrev pub brings_batch : Transition → Bool
+brings_batch (Append member token expected new parts rows weight) = true
+brings_batch (Merge member token left right merged) = true
+brings_batch _ = false
+
 -- the transition meets this refusal, or it meets none and memory for what it brings was refused
 abbrev pub IsRefusal : ShardState → Transition → Refusal → Type 0
 IsRefusal s x r = (refusal_of s x ≡ Some r) ⊎ ((refusal_of s x ≡ None) × (takes_memory x ≡ true) × (r ≡ Memory))
