@@ -6,3 +6,9 @@ pub mod Rules
 pub mod Determined
 pub mod Refused
 pub mod Rising
+pub mod MemberLoops
+pub mod Following
+pub mod MemberChanges
+pub mod Applied
+pub mod Staying
+pub mod NoMemory

@@ -1,11 +1,13 @@
 //! The state of a shard, and the transitions that make one state of another.
 #![tactic(auto)]
 
+mod applying;
 mod kinds;
 pub mod laws;
 mod member_lists;
 mod members;
 mod refusals;
+mod refusing;
 mod states;
 mod transitions;
 
