@@ -2,3 +2,5 @@ pub mod Lists
 pub mod States
 pub mod Steps
 pub mod Refusals
+pub mod Versions
+pub mod VersionReading
