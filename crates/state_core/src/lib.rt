@@ -8,6 +8,7 @@ mod members;
 mod refusals;
 mod states;
 mod transitions;
+mod version_encoding;
 mod version_faults;
 mod version_fields;
 
@@ -17,4 +18,5 @@ pub use members::Member;
 pub use refusals::Refusal;
 pub use states::State;
 pub use transitions::Transition;
+pub use version_encoding::encode_version;
 pub use version_faults::VersionFault;
