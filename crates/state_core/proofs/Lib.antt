@@ -7,3 +7,5 @@ pub mod Determined
 pub mod Refused
 pub mod Rising
 pub mod VersionWriting
+pub mod VersionFields
+pub mod VersionMembers

@@ -11,6 +11,7 @@ mod transitions;
 mod version_encoding;
 mod version_faults;
 mod version_fields;
+pub mod version_laws;
 
 pub use kinds::Kind;
 pub use member_lists::MemberList;
