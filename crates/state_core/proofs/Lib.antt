@@ -9,3 +9,5 @@ pub mod Rising
 pub mod VersionWriting
 pub mod VersionFields
 pub mod VersionMembers
+pub mod VersionMemberLists
+pub mod VersionKeys

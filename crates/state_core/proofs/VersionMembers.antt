@@ -79,7 +79,7 @@ module _ (total : ℕ) where
       let (joins, is) = guard_passed (may_join (last_of s.members) s.next_member n.0) _ n x k in
       subst (λ (y : ℕ × List ℕ). Took bytes (number_bytes y.0) y.1 (NumberFits y.0) × (may_join (last_of s.members) s.next_member y.0 ≡ true)) is (number_took total bytes n h, joins)
 
-  abbrev TookMember : ShardState → List ℕ → Member × List ℕ → Type 0
+  abbrev pub TookMember : ShardState → List ℕ → Member × List ℕ → Type 0
   TookMember s bytes y = Took bytes (member_bytes y.0) y.1 (MemberFits y.0) × MemberMay (last_of s.members) s.next_member s.number y.0
 
   fields_took : (s : ShardState) (bytes : List ℕ) (n : ℕ × List ℕ) (kind : Kind × List ℕ) (since hold beat lease token : ℕ × List ℕ)
