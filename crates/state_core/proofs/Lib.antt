@@ -11,3 +11,4 @@ pub mod VersionFields
 pub mod VersionMembers
 pub mod VersionMemberLists
 pub mod VersionKeys
+pub mod VersionBatches
