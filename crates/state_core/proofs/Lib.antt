@@ -12,3 +12,4 @@ pub mod VersionMembers
 pub mod VersionMemberLists
 pub mod VersionKeys
 pub mod VersionBatches
+pub mod VersionBatchRules
