@@ -13,3 +13,5 @@ pub mod VersionMemberLists
 pub mod VersionKeys
 pub mod VersionBatches
 pub mod VersionBatchRules
+pub mod VersionBatchLists
+pub mod VersionSteps
