@@ -15,3 +15,4 @@ pub mod VersionBatches
 pub mod VersionBatchRules
 pub mod VersionBatchLists
 pub mod VersionSteps
+pub mod VersionTransitions
