@@ -16,3 +16,5 @@ pub mod VersionBatchRules
 pub mod VersionBatchLists
 pub mod VersionSteps
 pub mod VersionTransitions
+pub mod VersionStates
+pub mod VersionFacts

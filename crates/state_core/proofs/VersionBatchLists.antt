@@ -1,17 +1,16 @@
 -- All batches of a version: those that are read keep the rules, and those that keep them are read.
-use Rattle.std.proofs.Common.{◌≡◌, ◌&&◌, ◌||◌, not, ◌⊎◌, ℕ, zero, suc, ◌+◌, ◌^◌, ◌<◌, ◌≤◌, Bool, true, false, cond, eqb, ltb, List, [], ◌∷◌, ◌++◌, length, Result, Ok, Err, Option, Some, None, refl, sym, ap, subst, ◌∙◌, append_assoc, arith, inl, inr}
+use Rattle.std.proofs.Common.{◌≡◌, ◌||◌, ℕ, zero, suc, true, eqb, ltb, List, [], ◌∷◌, ◌++◌, length, Result, Ok, Option, Some, None, refl, sym, ap, subst, ◌∙◌, append_assoc, arith}
 use Rattle.std.specs.List.{flat_map, AllByRecursion}
-use Rattle.std.proofs.lemmas.Bool.{eq-eqb, eqb-true, le-leb, leb-true, ltb-true, ltb-false}
+use Rattle.std.proofs.lemmas.Bool.{eq-eqb, eqb-true, le-leb}
 use Rattle.std.proofs.lemmas.List.{append-nil}
 use Rattle.std.proofs.lemmas.List.Concat.{flat_map-cons}
 use Rattle.update_core.specs.Frontiers.{is_at}
-use Rattle.spine_core.specs.Spines.{upper_from, spine_upper}
+use Rattle.spine_core.specs.Spines.{spine_upper}
 use Rattle.spine_core.specs.declared.batches.Batch.{Batch}
 use Rattle.state_core.specs.declared.version_faults.VersionFault.{VersionFault}
 use Rattle.state_core.specs.States.{ShardState}
-use Rattle.state_core.specs.VersionReading.{◌>>=◌, number_at, batch_at, batches_at, with_batch, batch_count_at, all_batches_at}
+use Rattle.state_core.specs.VersionReading.{number_at, batch_at, batches_at, with_batch, batch_count_at, all_batches_at}
 use Rattle.state_core.specs.Versions.{number_bytes, batch_bytes, batches_bytes, NumberFits, BatchFits, BatchesFit}
-use Rattle.state_core.proofs.ListLemmas.{bool_cases}
 use Rattle.state_core.proofs.Rules.{Rise}
 use Rattle.state_core.proofs.VersionFields.{bind_then, guard_passed, ok_is, Took, took_then, number_took, number_again}
 use Rattle.state_core.proofs.VersionBatches.{BatchMay, TookBatch, batch_took, batch_again}
@@ -60,7 +59,7 @@ module _ (total : ℕ) where
   batches_again [] s rest f may = ap (λ (us : List Batch). let t : Result (ShardState × List ℕ) VersionFault = Ok (record s { batches = us }, rest) in t) (sym (append-nil s.batches))
   batches_again (b ∷ bs) s rest f may =
       let regrouped : flat_map batch_bytes (b ∷ bs) ++ rest ≡ batch_bytes b ++ (flat_map batch_bytes bs ++ rest) =
-          ap (λ (x : List ℕ). x ++ rest) (flat_map-cons batch_bytes b bs) ∙ append_assoc (batch_bytes b) (flat_map batch_bytes bs) rest in
+      ap (λ (x : List ℕ). x ++ rest) (flat_map-cons batch_bytes b bs) ∙ append_assoc (batch_bytes b) (flat_map batch_bytes bs) rest in
       ap (batches_at total s (suc (length bs))) regrouped
       ∙ rw (batch_again total s (eqb (length bs) 0) b (flat_map batch_bytes bs ++ rest) f.0 may.0) (batches_again bs (with_batch s b) rest f.1 may.1)
       ∙ ap (λ (us : List Batch). let t : Result (ShardState × List ℕ) VersionFault = Ok (record s { batches = us }, rest) in t) (append_assoc s.batches (b ∷ []) bs)
@@ -69,8 +68,8 @@ module _ (total : ℕ) where
   unfolding batch_count_at
   count_took s bytes x e =
       bind_then (number_at total bytes) _ x e (λ n h k.
-          let (some, is) = guard_passed (ltb 0 n.0 || is_at s.upper 0) _ n x k in
-          subst (λ (y : ℕ × List ℕ). Took bytes (number_bytes y.0) y.1 (NumberFits y.0) × ((ltb 0 y.0 || is_at s.upper 0) ≡ true)) is (number_took total bytes n h, some))
+      let (some, is) = guard_passed (ltb 0 n.0 || is_at s.upper 0) _ n x k in
+      subst (λ (y : ℕ × List ℕ). Took bytes (number_bytes y.0) y.1 (NumberFits y.0) × ((ltb 0 y.0 || is_at s.upper 0) ≡ true)) is (number_took total bytes n h, some))
 
   count_again : (s : ShardState) (n : ℕ) (rest : List ℕ) → NumberFits n → (ltb 0 n || is_at s.upper 0) ≡ true → batch_count_at total s (number_bytes n ++ rest) ≡ Ok (n, rest)
   unfolding batch_count_at

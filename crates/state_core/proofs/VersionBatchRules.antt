@@ -1,5 +1,5 @@
 -- Batches that keep the rules one by one keep those of a state, and the other way round.
-use Rattle.std.proofs.Common.{◌≡◌, ◌&&◌, ◌||◌, not, ◌⊎◌, ℕ, zero, suc, ◌+◌, ◌-◌, ◌^◌, ◌<◌, ◌≤◌, Bool, true, false, eqb, List, [], ◌∷◌, ◌++◌, length, Option, Some, None, refl, sym, ap, subst, ◌∙◌, append_assoc, arith, inl, inr}
+use Rattle.std.proofs.Common.{◌≡◌, ℕ, suc, ◌+◌, ◌-◌, ◌≤◌, true, false, eqb, List, [], ◌∷◌, ◌++◌, length, Option, Some, None, refl, sym, ap, subst, ◌∙◌, append_assoc, arith}
 use Rattle.std.specs.Bool.{⊤}
 use Rattle.std.specs.List.{AllByRecursion}
 use Rattle.std.proofs.lemmas.Bool.{eq-eqb, eqb-true, ne_eqb, le-leb, leb-true, ltb-true}
@@ -141,23 +141,24 @@ rules_may (b ∷ bs) s r e =
     let up = upper_from-push (Some 0) s.batches b in
     let nil = append-nil (keys_of s.batches) in
     let front : Distinct Unlike ((keys_of s.batches ++ b.parts) ++ keys_of bs) = subst (λ (us : List PartKey). Distinct Unlike us) (sym (append_assoc (keys_of s.batches) b.parts (keys_of bs))) r.distinct in
-    let keys : KeysMay s (keys_of s.batches) b.parts = distinct_may s (keys_of s.batches) b.parts (distinct_front (keys_of s.batches ++ b.parts) (keys_of bs) front) (each_front (KeyFits s.shard s.next_member s.members) b.parts (keys_of bs) r.keys) in
-    (record {
-      lower = is_there (spine_upper s.batches) b.desc.lower r.follows.0;
-      ends = may_last s b bs r.follows.1 e;
-      since = r.sinces.0;
-      rows = omega arith;
-      count = count_is b.rows (length b.parts) r.parts.0;
-      keys = subst (λ (us : List PartKey). KeysMay s us b.parts) (sym nil) keys;
-    },
-    rules_may bs (with_batch s b) (record {
-      follows = subst (λ (o : Option ℕ). Follows o bs) (sym up) r.follows.2;
-      sinces = r.sinces.1;
-      rows = (let le : rows_of (s.batches ++ b ∷ []) + rows_of bs ≤ s.weight = omega arith in le);
-      parts = r.parts.1;
-      keys = each_back (KeyFits s.shard s.next_member s.members) b.parts (keys_of bs) r.keys;
-      distinct = subst (λ (us : List PartKey). Distinct Unlike (us ++ keys_of bs)) (sym push) front;
-    }) (e ∙ ap (λ (o : Option ℕ). upper_from o bs) (sym up)))
+    let keys : KeysMay s (keys_of s.batches) b.parts = distinct_may s (keys_of s.batches) b.parts (distinct_front (keys_of s.batches ++ b.parts) (keys_of bs) front) (each_front (KeyFits s.shard s.next_member s.members) b.parts (keys_of bs) r.keys) in (
+      record {
+        lower = is_there (spine_upper s.batches) b.desc.lower r.follows.0;
+        ends = may_last s b bs r.follows.1 e;
+        since = r.sinces.0;
+        rows = omega arith;
+        count = count_is b.rows (length b.parts) r.parts.0;
+        keys = subst (λ (us : List PartKey). KeysMay s us b.parts) (sym nil) keys;
+      },
+      rules_may bs (with_batch s b) (record {
+        follows = subst (λ (o : Option ℕ). Follows o bs) (sym up) r.follows.2;
+        sinces = r.sinces.1;
+        rows = (let le : rows_of (s.batches ++ b ∷ []) + rows_of bs ≤ s.weight = omega arith in le);
+        parts = r.parts.1;
+        keys = each_back (KeyFits s.shard s.next_member s.members) b.parts (keys_of bs) r.keys;
+        distinct = subst (λ (us : List PartKey). Distinct Unlike (us ++ keys_of bs)) (sym push) front;
+      }) (e ∙ ap (λ (o : Option ℕ). upper_from o bs) (sym up)),
+    )
   where
     distinct_front : (xs ys : List PartKey) → Distinct Unlike (xs ++ ys) → Distinct Unlike xs
     distinct_front [] ys d = tt

@@ -1,7 +1,7 @@
 -- A field of a version that is read is the field that was written, and what was written is read again.
-use Rattle.std.proofs.Common.{◌≡◌, ◌≢◌, ◌==◌, ℕ, suc, ◌+◌, ◌^◌, ◌<◌, ◌≤◌, Bool, true, false, cond, eqb, ltb, List, [], ◌∷◌, ◌++◌, length, get_or, take, drop, Result, Ok, Err, Option, Some, None, refl, sym, ap, subst, ◌∙◌, append_assoc, arith, inl, inr}
+use Rattle.std.proofs.Common.{◌≡◌, ℕ, suc, ◌+◌, ◌^◌, ◌<◌, ◌≤◌, Bool, true, false, cond, eqb, ltb, List, [], ◌∷◌, ◌++◌, length, get_or, take, drop, Result, Ok, Err, Option, Some, None, refl, sym, ap, subst, ◌∙◌, append_assoc, arith, inl, inr}
 use Rattle.std.specs.Int.{Width, w16, w32, w64, byte_len, from_be_bytes, to_be_bytes}
-use Rattle.std.proofs.lemmas.Bool.{cases_lt, ltb-false, ltb-true, le-leb, le-ltb, eqb-true, eqb-false}
+use Rattle.std.proofs.lemmas.Bool.{cases_lt, ltb-false, ltb-true, le-leb, le-ltb, eqb-true}
 use Rattle.std.proofs.lemmas.List.{take_at, drop_at, take-append-drop, length-append, length-take, get_or-drop, get_or-take, get_or_past}
 use Rattle.std.proofs.lemmas.Nat.{be_bytes_2, be_bytes_4, be_bytes_8, from_be_bytes-to_be_bytes_2, from_be_bytes-to_be_bytes_4, from_be_bytes-to_be_bytes_8}
 use Rattle.state_core.specs.declared.kinds.Kind.{Kind}
@@ -236,12 +236,12 @@ module _ (total : ℕ) where
       elim (bool_cases (eqb n 0)) [
         | inl a ↦ (let e2 : Some Writer ≡ Some kind = rw a at e in let k : Writer ≡ kind = cc in eqb-true n 0 a ∙ ap kind_byte k)
         | inr a ↦ elim (bool_cases (eqb n 1)) [
-            | inl b ↦ (let e2 : Some Reader ≡ Some kind = rw (a, b) at e in let k : Reader ≡ kind = cc in eqb-true n 1 b ∙ ap kind_byte k)
-            | inr b ↦ elim (bool_cases (eqb n 2)) [
-                | inl c ↦ (let e2 : Some Keeper ≡ Some kind = rw (a, b, c) at e in let k : Keeper ≡ kind = cc in eqb-true n 2 c ∙ ap kind_byte k)
-                | inr c ↦ absurd (let e2 : None ≡ Some kind = rw (a, b, c) at e in cc)
-              ]
+          | inl b ↦ (let e2 : Some Reader ≡ Some kind = rw (a, b) at e in let k : Reader ≡ kind = cc in eqb-true n 1 b ∙ ap kind_byte k)
+          | inr b ↦ elim (bool_cases (eqb n 2)) [
+            | inl c ↦ (let e2 : Some Keeper ≡ Some kind = rw (a, b, c) at e in let k : Keeper ≡ kind = cc in eqb-true n 2 c ∙ ap kind_byte k)
+            | inr c ↦ absurd (let e2 : None ≡ Some kind = rw (a, b, c) at e in cc)
           ]
+        ]
       ]
 
   known : (bytes rest : List ℕ) (o : Option Kind) (x : Kind × List ℕ) → known_kind total bytes o rest ≡ Ok x → (o ≡ Some x.0) × (rest ≡ x.1)

@@ -1,5 +1,5 @@
 -- Keys of a version's batches: those that are read keep the rules, and those that keep them are read.
-use Rattle.std.proofs.Common.{◌≡◌, ◌&&◌, ◌⊎◌, ℕ, zero, suc, ◌^◌, ◌<◌, ◌≤◌, Bool, true, false, cond, eqb, ltb, List, [], ◌∷◌, ◌++◌, length, Result, Ok, Err, Option, Some, None, refl, sym, ap, subst, ◌∙◌, append_assoc, arith, inl, inr}
+use Rattle.std.proofs.Common.{◌≡◌, ℕ, zero, suc, ◌^◌, ◌<◌, ◌≤◌, true, false, eqb, List, [], ◌∷◌, ◌++◌, length, Result, Ok, refl, sym, ap, subst, ◌∙◌, append_assoc, arith, inl, inr}
 use Rattle.std.specs.Bool.{⊤}
 use Rattle.std.specs.List.{flat_map, AllByRecursion, list_any}
 use Rattle.std.proofs.lemmas.Bool.{eq-eqb, eqb-true, eqb-false}
@@ -12,7 +12,7 @@ use Rattle.state_core.specs.declared.version_faults.VersionFault.{VersionFault}
 use Rattle.state_core.specs.Lists.{Among, Distinct}
 use Rattle.state_core.specs.Refusals.{same_key, member_of}
 use Rattle.state_core.specs.States.{ShardState, KeyFits, keys_of}
-use Rattle.state_core.specs.VersionReading.{◌>>=◌, number_at, limited_at, below_at, most, most_spent, new_key, index_at, key_at, keys_at}
+use Rattle.state_core.specs.VersionReading.{number_at, limited_at, below_at, most_spent, index_at, key_at, keys_at}
 use Rattle.state_core.specs.Versions.{number_bytes, key_bytes, NumberFits, PartKeyFits}
 use Rattle.state_core.proofs.ListLemmas.{bool_cases, each_map, among_split, apart}
 use Rattle.state_core.proofs.Rules.{Rise}
@@ -50,9 +50,9 @@ fresh_apart k [] h a = absurd a
 fresh_apart k (q ∷ ks) h a = elim (bool_cases (same_key k q)) [
   | inl e ↦ (let h2 : true ≡ false = rw e at h in cc)
   | inr e ↦ (let h2 : list_any (same_key k) ks ≡ false = rw e at h in elim a [
-      | inl p ↦ (let s : same_key k k ≡ false = subst (λ (w : PartKey). same_key k w ≡ false) p e in let t : true ≡ false = sym (key_same k) ∙ s in cc)
-      | inr p ↦ fresh_apart k ks h2 p
-    ])
+    | inl p ↦ (let s : same_key k k ≡ false = subst (λ (w : PartKey). same_key k w ≡ false) p e in let t : true ≡ false = sym (key_same k) ∙ s in cc)
+    | inr p ↦ fresh_apart k ks h2 p
+  ])
 ]
 
 -- a key that isn't there is found by no test
@@ -138,9 +138,10 @@ module _ (total : ℕ) where
       → TookKey s before bytes (record { shard = s.shard; member = member.0; token = token.0; index = index.0 }, index.1)
   key_made s before bytes member token index r t0 t1 t2 fresh =
       let e1 = took_then member.1 (number_bytes token.0) token.1 (number_bytes index.0) index.1 t1.0 t2 in
-      let e0 = took_then bytes (number_bytes member.0) member.1 (number_bytes token.0 ++ number_bytes index.0) index.1 t0.0 e1 in
-      (record { parts = e0.parts; rest_is = e0.rest_is; fits = λ h. let f = e0.fits h in record { member = f.0; token = f.1.0; index = f.1.1 } },
-        record { fits = record { of_shard = refl; below = t0.1; spent = spent_of member.0 token.0 s.members r t1.1 }; fresh = fresh })
+      let e0 = took_then bytes (number_bytes member.0) member.1 (number_bytes token.0 ++ number_bytes index.0) index.1 t0.0 e1 in (
+        record { parts = e0.parts; rest_is = e0.rest_is; fits = λ h. let f = e0.fits h in record { member = f.0; token = f.1.0; index = f.1.1 } },
+        record { fits = record { of_shard = refl; below = t0.1; spent = spent_of member.0 token.0 s.members r t1.1 }; fresh = fresh },
+      )
 
   pub key_took : (s : ShardState) (before : List PartKey) (bytes : List ℕ) (x : PartKey × List ℕ) → Rise s.members → key_at total s before bytes ≡ Ok x → TookKey s before bytes x
   unfolding key_at index_at
@@ -148,10 +149,10 @@ module _ (total : ℕ) where
       bind_then (below_at total s.next_member bytes) _ x e (λ member h0 k0.
       bind_then (limited_at total (most_spent (member_of member.0 s.members)) member.1) _ x k0 (λ token h1 k1.
       bind_then (number_at total token.1) _ x k1 (λ index h2 k2.
-          let k : PartKey = record { shard = s.shard; member = member.0; token = token.0; index = index.0 } in
-          let (fresh, is) = guard_ok (list_any (same_key k) before) _ (k, index.1) x k2 in
-          subst (λ (y : PartKey × List ℕ). TookKey s before bytes y) is
-              (key_made s before bytes member token index r (below_took total s.next_member bytes member h0) (limited_took total (most_spent (member_of member.0 s.members)) member.1 token h1) (number_took total token.1 index h2) fresh))))
+      let k : PartKey = record { shard = s.shard; member = member.0; token = token.0; index = index.0 } in
+      let (fresh, is) = guard_ok (list_any (same_key k) before) _ (k, index.1) x k2 in
+      subst (λ (y : PartKey × List ℕ). TookKey s before bytes y) is
+      (key_made s before bytes member token index r (below_took total s.next_member bytes member h0) (limited_took total (most_spent (member_of member.0 s.members)) member.1 token h1) (number_took total token.1 index h2) fresh))))
 
   again_of : (s : ShardState) (before : List PartKey) (k : PartKey) (shard : ShardId) (rest : List ℕ) → shard ≡ k.shard → list_any (same_key k) before ≡ false → NumberFits k.index
       → index_at total shard k.member k.token before (number_bytes k.index ++ rest) ≡ Ok (k, rest)
@@ -166,9 +167,11 @@ module _ (total : ℕ) where
       let r1 = number_bytes k.token ++ r2 in
       let regrouped : key_bytes k ++ rest ≡ number_bytes k.member ++ r1 = simp append_assoc in
       ap (key_at total s before) regrouped
-      ∙ rw (below_again total s.next_member k.member r1 f.member may.fits.below,
-          limited_again total (most_spent (member_of k.member s.members)) k.token r2 f.token (of_spent k.member k.token s.members f.token may.fits.spent))
-          (again_of s before k s.shard rest (sym may.fits.of_shard) may.fresh f.index)
+      ∙ rw (
+        below_again total s.next_member k.member r1 f.member may.fits.below,
+        limited_again total (most_spent (member_of k.member s.members)) k.token r2 f.token (of_spent k.member k.token s.members f.token may.fits.spent),
+      )
+      (again_of s before k s.shard rest (sym may.fits.of_shard) may.fresh f.index)
 
   pub record ReadKeys (s : ShardState) (ks : List PartKey) (n : ℕ) (bytes : List ℕ) (y : List PartKey × List ℕ) : Type 0 where
     pub keys : List PartKey
@@ -197,7 +200,7 @@ module _ (total : ℕ) where
   keys_took zero s ks bytes x r e = subst (λ (y : List PartKey × List ℕ). ReadKeys s ks 0 bytes y) (ok_is (ks, bytes) x e) (no_key s ks bytes)
   keys_took (suc n) s ks bytes x r e =
       bind_then (key_at total s (keys_of s.batches ++ ks) bytes) _ x e (λ k h e2.
-          one_key s ks n bytes k x (key_took s (keys_of s.batches ++ ks) bytes k r h) (keys_took n s (ks ++ k.0 ∷ []) k.1 x r e2))
+      one_key s ks n bytes k x (key_took s (keys_of s.batches ++ ks) bytes k r h) (keys_took n s (ks ++ k.0 ∷ []) k.1 x r e2))
 
   pub keys_again : (new : List PartKey) (s : ShardState) (ks : List PartKey) (rest : List ℕ) → AllByRecursion PartKeyFits new → KeysMay s (keys_of s.batches ++ ks) new
       → keys_at total s ks (length new) (flat_map key_bytes new ++ rest) ≡ Ok (ks ++ new, rest)
@@ -205,7 +208,7 @@ module _ (total : ℕ) where
   keys_again [] s ks rest f may = ap (λ (us : List PartKey). let t : Result (List PartKey × List ℕ) VersionFault = Ok (us, rest) in t) (sym (append-nil ks))
   keys_again (k ∷ new) s ks rest f may =
       let regrouped : flat_map key_bytes (k ∷ new) ++ rest ≡ key_bytes k ++ (flat_map key_bytes new ++ rest) =
-          ap (λ (x : List ℕ). x ++ rest) (flat_map-cons key_bytes k new) ∙ append_assoc (key_bytes k) (flat_map key_bytes new) rest in
+      ap (λ (x : List ℕ). x ++ rest) (flat_map-cons key_bytes k new) ∙ append_assoc (key_bytes k) (flat_map key_bytes new) rest in
       let later : KeysMay s (keys_of s.batches ++ (ks ++ k ∷ [])) new = subst (λ (us : List PartKey). KeysMay s us new) (append_assoc (keys_of s.batches) ks (k ∷ [])) may.1 in
       ap (keys_at total s ks (suc (length new))) regrouped
       ∙ rw (key_again s (keys_of s.batches ++ ks) k (flat_map key_bytes new ++ rest) f.0 may.0) (keys_again new s (ks ++ k ∷ []) rest f.1 later)

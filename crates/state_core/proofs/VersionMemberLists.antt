@@ -1,5 +1,5 @@
 -- All members of a version: those that are read keep the rules, and those that keep them are read.
-use Rattle.std.proofs.Common.{◌≡◌, ◌&&◌, ℕ, zero, suc, ◌^◌, ◌<◌, ◌≤◌, Bool, true, false, cond, eqb, ltb, List, [], ◌∷◌, ◌++◌, length, Result, Ok, Err, Option, Some, None, refl, sym, ap, subst, ◌∙◌, append_assoc, arith, inl, inr}
+use Rattle.std.proofs.Common.{◌≡◌, ℕ, zero, suc, ◌^◌, ◌<◌, ◌≤◌, true, ltb, List, [], ◌∷◌, ◌++◌, length, Result, Ok, Option, Some, None, refl, sym, ap, subst, ◌∙◌, append_assoc, arith}
 use Rattle.std.specs.Int.{w16, to_be_bytes}
 use Rattle.std.specs.List.{flat_map, AllByRecursion}
 use Rattle.std.proofs.lemmas.Bool.{ltb-false, ltb-true, le-leb, le-ltb, eq-eqb, eqb-true}
@@ -9,10 +9,10 @@ use Rattle.store_core.specs.Stores.{last_of}
 use Rattle.state_core.specs.declared.members.Member.{Member}
 use Rattle.state_core.specs.declared.version_faults.VersionFault.{VersionFault}
 use Rattle.state_core.specs.States.{ShardState, MembersRise, KindRules, SinceIs, least_since}
-use Rattle.state_core.specs.VersionReading.{◌>>=◌, wide_at, may_join, member_at, members_at, with_member, member_count_at, all_members_at, since_is}
+use Rattle.state_core.specs.VersionReading.{wide_at, may_join, member_at, members_at, with_member, member_count_at, all_members_at, since_is}
 use Rattle.state_core.specs.Versions.{member_bytes, members_bytes, MemberFits}
-use Rattle.state_core.proofs.VersionFields.{bind_ok, bind_then, guard_ok, guard_passed, ok_is, Took, took_then, wide16, wide_took, wide_again}
-use Rattle.state_core.proofs.VersionMembers.{and_true, last_of-push, MemberMay, MembersMay, TookMember, member_took, member_again}
+use Rattle.state_core.proofs.VersionFields.{bind_then, guard_ok, guard_passed, ok_is, Took, took_then, wide16, wide_took, wide_again}
+use Rattle.state_core.proofs.VersionMembers.{and_true, last_of-push, MembersMay, TookMember, member_took, member_again}
 
 -- the state with members more
 abbrev pub with_members : ShardState → List Member → ShardState
@@ -113,7 +113,7 @@ module _ (total : ℕ) where
   members_again [] s rest f may = ap (λ (ms : List Member). let t : Result (ShardState × List ℕ) VersionFault = Ok (record s { members = ms }, rest) in t) (sym (append-nil s.members))
   members_again (m ∷ ms) s rest f may =
       let regrouped : flat_map member_bytes (m ∷ ms) ++ rest ≡ member_bytes m ++ (flat_map member_bytes ms ++ rest) =
-          ap (λ (x : List ℕ). x ++ rest) (flat_map-cons member_bytes m ms) ∙ append_assoc (member_bytes m) (flat_map member_bytes ms) rest in
+      ap (λ (x : List ℕ). x ++ rest) (flat_map-cons member_bytes m ms) ∙ append_assoc (member_bytes m) (flat_map member_bytes ms) rest in
       let later : MembersMay (last_of (s.members ++ m ∷ [])) s.next_member s.number ms = subst (λ (b : Option Member). MembersMay b s.next_member s.number ms) (sym (last_of-push s.members m)) may.1 in
       ap (members_at total s (suc (length ms))) regrouped
       ∙ rw (member_again total s m (flat_map member_bytes ms ++ rest) f.0 may.0) (members_again ms (with_member s m) rest f.1 later)
@@ -123,9 +123,9 @@ module _ (total : ℕ) where
   unfolding member_count_at
   count_took bytes x e =
       bind_then (wide_at w16 total bytes) _ x e (λ n h k.
-          let (few, is) = guard_ok (ltb 256 n.0) _ n x k in
-          let t = wide_took total w16 (2 ^ 16) wide16 bytes n h in
-          subst (λ (y : ℕ × List ℕ). Took bytes (to_be_bytes w16 y.0) y.1 (Unit {0}) × (y.0 ≤ 256)) is (record { parts = t.parts; rest_is = t.rest_is; fits = λ h. tt }, ltb-false _ _ few))
+      let (few, is) = guard_ok (ltb 256 n.0) _ n x k in
+      let t = wide_took total w16 (2 ^ 16) wide16 bytes n h in
+      subst (λ (y : ℕ × List ℕ). Took bytes (to_be_bytes w16 y.0) y.1 (Unit {0}) × (y.0 ≤ 256)) is (record { parts = t.parts; rest_is = t.rest_is; fits = λ h. tt }, ltb-false _ _ few))
 
   count_again : (n : ℕ) (rest : List ℕ) → n ≤ 256 → member_count_at total (to_be_bytes w16 n ++ rest) ≡ Ok (n, rest)
   unfolding member_count_at
@@ -167,8 +167,8 @@ module _ (total : ℕ) where
   all_members_took s bytes x e =
       bind_then (member_count_at total bytes) _ x e (λ count h k.
       bind_then (members_at total s count.0 count.1) _ x k (λ read h2 k2.
-          let (since, is) = guard_passed (since_is (least_since read.0.members) read.0.since) _ read x k2 in
-          subst (λ (y : ShardState × List ℕ). AllMembers s bytes y) is (all_of s bytes count read (count_took bytes count h) (members_took count.0 s count.1 read h2) since)))
+      let (since, is) = guard_passed (since_is (least_since read.0.members) read.0.since) _ read x k2 in
+      subst (λ (y : ShardState × List ℕ). AllMembers s bytes y) is (all_of s bytes count read (count_took bytes count h) (members_took count.0 s count.1 read h2) since)))
 
   pub all_members_again : (s : ShardState) (ms : List Member) (rest : List ℕ) → length ms ≤ 256 → AllByRecursion MemberFits ms → MembersMay (last_of s.members) s.next_member s.number ms → SinceIs (least_since (s.members ++ ms)) s.since
       → all_members_at total s (members_bytes ms ++ rest) ≡ Ok (with_members s ms, rest)

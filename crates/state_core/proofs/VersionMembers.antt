@@ -1,20 +1,14 @@
 -- Members that are read keep the rules, and members that keep them are read.
-use Rattle.std.proofs.Common.{◌≡◌, ◌&&◌, ℕ, zero, suc, ◌^◌, ◌<◌, ◌≤◌, Bool, true, false, cond, eqb, ltb, List, [], ◌∷◌, ◌++◌, length, Result, Ok, Err, Option, Some, None, refl, sym, ap, subst, ◌∙◌, append_assoc, arith, inl, inr}
+use Rattle.std.proofs.Common.{◌≡◌, ◌&&◌, ℕ, ◌^◌, ◌<◌, ◌≤◌, Bool, true, false, List, [], ◌∷◌, ◌++◌, Ok, Option, Some, refl, ap, subst, ◌∙◌, append_assoc, arith}
 use Rattle.std.specs.Bool.{⊤}
-use Rattle.std.specs.Int.{w16, to_be_bytes}
-use Rattle.std.specs.List.{flat_map, AllByRecursion}
-use Rattle.std.proofs.lemmas.Bool.{ltb-false, ltb-true, le-leb, le-ltb, eq-eqb, eqb-true}
-use Rattle.std.proofs.lemmas.List.{append-nil}
-use Rattle.std.proofs.lemmas.List.Concat.{flat_map-cons}
 use Rattle.store_core.specs.Stores.{last_of}
 use Rattle.state_core.specs.declared.kinds.Kind.{Kind}
 use Rattle.state_core.specs.declared.kinds.Kind.TheVariants.{Writer, Reader, Keeper}
 use Rattle.state_core.specs.declared.members.Member.{Member}
-use Rattle.state_core.specs.declared.version_faults.VersionFault.{VersionFault}
-use Rattle.state_core.specs.States.{ShardState, MembersRise, KindRules, SinceIs, least_since, is_reader, is_writer}
-use Rattle.state_core.specs.VersionReading.{◌>>=◌, number_at, limited_at, kind_at, may_join, joined_at, most, most_since, most_token, unless_writer, member_at, members_at, with_member, member_count_at, all_members_at, since_is}
-use Rattle.state_core.specs.Versions.{number_bytes, kind_byte, member_bytes, members_bytes, NumberFits, MemberFits}
-use Rattle.state_core.proofs.VersionFields.{bind_ok, bind_then, guard_ok, guard_passed, ok_is, Took, took_then, took_as, wide16, wide_took, wide_again, number_took, number_again, limited_took, limited_again, kind_took, kind_again}
+use Rattle.state_core.specs.States.{ShardState, KindRules}
+use Rattle.state_core.specs.VersionReading.{number_at, limited_at, kind_at, may_join, joined_at, most, most_since, most_token, unless_writer, member_at}
+use Rattle.state_core.specs.Versions.{number_bytes, kind_byte, member_bytes, NumberFits, MemberFits}
+use Rattle.state_core.proofs.VersionFields.{bind_ok, bind_then, guard_passed, ok_is, Took, took_then, number_took, number_again, limited_took, limited_again, kind_took, kind_again}
 
 pub and_true : (a b : Bool) → (a && b) ≡ true → (a ≡ true) × (b ≡ true)
 and_true true b h = (refl, h)
@@ -105,9 +99,10 @@ module _ (total : ℕ) where
       let e2 = took_then kind.1 (number_bytes since.0) since.1 b3 token.1 t2.0 e3 in
       let e1 = took_then n.1 (kind_byte kind.0 ∷ []) kind.1 b2 token.1 t1 e2 in
       let e0 = took_then bytes (number_bytes n.0) n.1 b1 token.1 t0.0 e1 in
-      let (low, rule) = limits_rule s.number n.0 kind.0 since.0 hold.0 beat.0 lease.0 token.0 (record { since = t2.1; hold = t3.1; beat = t4.1; lease = t5.1; token = t6.1 }) in
-      (record { parts = e0.parts; rest_is = e0.rest_is; fits = λ h. let f = e0.fits h in record { number = f.0; since = f.1.1.0; hold = f.1.1.1.0; beat = f.1.1.1.1.0; lease = f.1.1.1.1.1.0; token = f.1.1.1.1.1.1 } },
-        record { joins = t0.1; hold = low; kind = rule })
+      let (low, rule) = limits_rule s.number n.0 kind.0 since.0 hold.0 beat.0 lease.0 token.0 (record { since = t2.1; hold = t3.1; beat = t4.1; lease = t5.1; token = t6.1 }) in (
+        record { parts = e0.parts; rest_is = e0.rest_is; fits = λ h. let f = e0.fits h in record { number = f.0; since = f.1.1.0; hold = f.1.1.1.0; beat = f.1.1.1.1.0; lease = f.1.1.1.1.1.0; token = f.1.1.1.1.1.1 } },
+        record { joins = t0.1; hold = low; kind = rule },
+      )
 
   pub member_took : (s : ShardState) (bytes : List ℕ) (x : Member × List ℕ) → member_at total s bytes ≡ Ok x → TookMember s bytes x
   unfolding member_at
@@ -119,10 +114,10 @@ module _ (total : ℕ) where
       bind_then (limited_at total (unless_writer kind.0 most) hold.1) _ x k3 (λ beat h4 k4.
       bind_then (limited_at total (unless_writer kind.0 most) beat.1) _ x k4 (λ lease h5 k5.
       bind_then (limited_at total (most_token kind.0) lease.1) _ x k5 (λ token h6 k6.
-          subst (λ (y : Member × List ℕ). TookMember s bytes y) (ok_is (record { number = n.0; kind = kind.0; since = since.0; hold = hold.0; beat = beat.0; lease = lease.0; token = token.0 }, token.1) x k6)
-              (fields_took s bytes n kind since hold beat lease token (joined_took s bytes n h0) (kind_took total n.1 kind h1) (limited_took total (most_since kind.0) kind.1 since h2)
-                  (limited_took total (unless_writer kind.0 s.number) since.1 hold h3) (limited_took total (unless_writer kind.0 most) hold.1 beat h4)
-                  (limited_took total (unless_writer kind.0 most) beat.1 lease h5) (limited_took total (most_token kind.0) lease.1 token h6)))))))))
+      subst (λ (y : Member × List ℕ). TookMember s bytes y) (ok_is (record { number = n.0; kind = kind.0; since = since.0; hold = hold.0; beat = beat.0; lease = lease.0; token = token.0 }, token.1) x k6)
+      (fields_took s bytes n kind since hold beat lease token (joined_took s bytes n h0) (kind_took total n.1 kind h1) (limited_took total (most_since kind.0) kind.1 since h2)
+      (limited_took total (unless_writer kind.0 s.number) since.1 hold h3) (limited_took total (unless_writer kind.0 most) hold.1 beat h4)
+      (limited_took total (unless_writer kind.0 most) beat.1 lease h5) (limited_took total (most_token kind.0) lease.1 token h6)))))))))
 
   pub member_again : (s : ShardState) (m : Member) (rest : List ℕ) → MemberFits m → MemberMay (last_of s.members) s.next_member s.number m → member_at total s (member_bytes m ++ rest) ≡ Ok (m, rest)
   unfolding member_at joined_at
@@ -135,9 +130,13 @@ module _ (total : ℕ) where
       let r2 = number_bytes m.since ++ r3 in
       let regrouped : member_bytes m ++ rest ≡ number_bytes m.number ++ (kind_byte m.kind ∷ r2) = simp append_assoc in
       ap (member_at total s) regrouped
-      ∙ rw (number_again total m.number (kind_byte m.kind ∷ r2) f.number, may.joins, kind_again total m.kind r2,
-          limited_again total (most_since m.kind) m.since r3 f.since l.since,
-          limited_again total (unless_writer m.kind s.number) m.hold r4 f.hold l.hold,
-          limited_again total (unless_writer m.kind most) m.beat r5 f.beat l.beat,
-          limited_again total (unless_writer m.kind most) m.lease r6 f.lease l.lease,
-          limited_again total (most_token m.kind) m.token rest f.token l.token) refl
+      ∙ rw (
+        number_again total m.number (kind_byte m.kind ∷ r2) f.number,
+        may.joins,
+        kind_again total m.kind r2,
+        limited_again total (most_since m.kind) m.since r3 f.since l.since,
+        limited_again total (unless_writer m.kind s.number) m.hold r4 f.hold l.hold,
+        limited_again total (unless_writer m.kind most) m.beat r5 f.beat l.beat,
+        limited_again total (unless_writer m.kind most) m.lease r6 f.lease l.lease,
+        limited_again total (most_token m.kind) m.token rest f.token l.token,
+      ) refl

@@ -1,22 +1,15 @@
 -- A transition of a version that is read is the one that was written, and what was written is read again.
-use Rattle.std.proofs.Common.{◌≡◌, ◌&&◌, ◌⊎◌, ℕ, zero, suc, ◌+◌, ◌^◌, ◌<◌, ◌≤◌, Bool, true, false, cond, eqb, ltb, List, [], ◌∷◌, ◌++◌, length, Result, Ok, Err, Option, Some, None, refl, sym, ap, subst, ◌∙◌, append_assoc, arith, inl, inr}
-use Rattle.std.specs.Bool.{⊤}
+use Rattle.std.proofs.Common.{◌≡◌, ℕ, zero, suc, List, [], ◌∷◌, ◌++◌, length, Result, Ok, Option, refl, sym, ap, subst, ◌∙◌, append_assoc}
 use Rattle.std.specs.List.{flat_map, AllByRecursion}
-use Rattle.std.proofs.lemmas.Bool.{eq-eqb, eqb-true, le-leb, ltb-true}
 use Rattle.std.proofs.lemmas.List.{append-nil}
 use Rattle.std.proofs.lemmas.List.Concat.{flat_map-cons}
 use Rattle.store_core.specs.declared.shards.ShardId.{ShardId}
 use Rattle.store_core.specs.declared.part_keys.PartKey.{PartKey}
 use Rattle.spine_core.specs.declared.batches.Batch.{Batch}
-use Rattle.state_core.specs.declared.kinds.Kind.{Kind}
-use Rattle.state_core.specs.declared.transitions.Transition.{Transition}
-use Rattle.state_core.specs.declared.transitions.Transition.TheVariants.{Init, Join, Leave, Renew, Advance, Expire, Append, Merge}
 use Rattle.state_core.specs.declared.version_faults.VersionFault.{VersionFault}
-use Rattle.state_core.specs.Steps.{taken_by}
-use Rattle.state_core.specs.VersionReading.{◌>>=◌, byte_at, number_at, frontier_at, kind_at, step_key_at, step_keys_at, counted_keys_at, step_batch_at, join_at, one_at, two_at, append_at, merge_at}
-use Rattle.state_core.specs.Versions.{number_bytes, frontier_bytes, kind_byte, key_bytes, keys_bytes, batch_bytes, step_bytes, NumberFits, FrontierFits, PartKeyFits, PartKeysFit, BatchFits, StepFits, AppendFits, MergeFits}
-use Rattle.state_core.proofs.ListLemmas.{each_append}
-use Rattle.state_core.proofs.VersionFields.{bind_then, ok_is, Took, took_then, number_took, number_again, frontier_took, frontier_again, kind_took, kind_again}
+use Rattle.state_core.specs.VersionReading.{number_at, frontier_at, step_key_at, step_keys_at, counted_keys_at, step_batch_at}
+use Rattle.state_core.specs.Versions.{number_bytes, frontier_bytes, key_bytes, keys_bytes, batch_bytes, NumberFits, FrontierFits, PartKeyFits, PartKeysFit, BatchFits}
+use Rattle.state_core.proofs.VersionFields.{bind_then, ok_is, Took, took_then, number_took, number_again, frontier_took, frontier_again}
 
 -- each key is of the shard
 abbrev pub AreOf : ShardId → List PartKey → Type 0
@@ -39,8 +32,8 @@ module _ (total : ℕ) (shard : ShardId) where
       bind_then (number_at total bytes) _ x e (λ member h0 k0.
       bind_then (number_at total member.1) _ x k0 (λ token h1 k1.
       bind_then (number_at total token.1) _ x k1 (λ index h2 k2.
-          subst (λ (y : PartKey × List ℕ). TookStepKey bytes y) (ok_is (record { shard = shard; member = member.0; token = token.0; index = index.0 }, index.1) x k2)
-              (key_made bytes member token index (number_took total bytes member h0) (number_took total member.1 token h1) (number_took total token.1 index h2)))))
+      subst (λ (y : PartKey × List ℕ). TookStepKey bytes y) (ok_is (record { shard = shard; member = member.0; token = token.0; index = index.0 }, index.1) x k2)
+      (key_made bytes member token index (number_took total bytes member h0) (number_took total member.1 token h1) (number_took total token.1 index h2)))))
 
   key_again : (k : PartKey) (rest : List ℕ) → PartKeyFits k → k.shard ≡ shard → step_key_at total shard (key_bytes k ++ rest) ≡ Ok (k, rest)
   unfolding step_key_at
@@ -50,7 +43,7 @@ module _ (total : ℕ) (shard : ShardId) where
       let regrouped : key_bytes k ++ rest ≡ number_bytes k.member ++ r1 = simp append_assoc in
       ap (step_key_at total shard) regrouped
       ∙ rw (number_again total k.member r1 f.member, number_again total k.token r2 f.token, number_again total k.index rest f.index)
-          (ap (λ (t : ShardId). let r : Result (PartKey × List ℕ) VersionFault = Ok (record { shard = t; member = k.member; token = k.token; index = k.index }, rest) in r) (sym is))
+      (ap (λ (t : ShardId). let r : Result (PartKey × List ℕ) VersionFault = Ok (record { shard = t; member = k.member; token = k.token; index = k.index }, rest) in r) (sym is))
 
   record ReadStepKeys (ks : List PartKey) (n : ℕ) (bytes : List ℕ) (y : List PartKey × List ℕ) : Type 0 where
     pub keys : List PartKey
@@ -84,7 +77,7 @@ module _ (total : ℕ) (shard : ShardId) where
   keys_again [] ks rest f is = ap (λ (us : List PartKey). let t : Result (List PartKey × List ℕ) VersionFault = Ok (us, rest) in t) (sym (append-nil ks))
   keys_again (k ∷ new) ks rest f is =
       let regrouped : flat_map key_bytes (k ∷ new) ++ rest ≡ key_bytes k ++ (flat_map key_bytes new ++ rest) =
-          ap (λ (x : List ℕ). x ++ rest) (flat_map-cons key_bytes k new) ∙ append_assoc (key_bytes k) (flat_map key_bytes new) rest in
+      ap (λ (x : List ℕ). x ++ rest) (flat_map-cons key_bytes k new) ∙ append_assoc (key_bytes k) (flat_map key_bytes new) rest in
       ap (step_keys_at total shard ks (suc (length new))) regrouped
       ∙ rw (key_again k (flat_map key_bytes new ++ rest) f.0 is.0) (keys_again new (ks ++ k ∷ []) rest f.1 is.1)
       ∙ ap (λ (us : List PartKey). let t : Result (List PartKey × List ℕ) VersionFault = Ok (us, rest) in t) (append_assoc ks (k ∷ []) new)
@@ -138,8 +131,8 @@ module _ (total : ℕ) (shard : ShardId) where
       bind_then (number_at total upper.1) _ x k1 (λ since h2 k2.
       bind_then (number_at total since.1) _ x k2 (λ rows h3 k3.
       bind_then (counted_keys_at total shard rows.1) _ x k3 (λ keys h4 k4.
-          subst (λ (y : Batch × List ℕ). TookStepBatch bytes y) (ok_is (record { desc = record { lower = lower.0; upper = upper.0; since = since.0 }; parts = keys.0; rows = rows.0 }, keys.1) x k4)
-              (batch_made bytes lower upper since rows keys (number_took total bytes lower h0) (frontier_took total lower.1 upper h1) (number_took total upper.1 since h2) (number_took total since.1 rows h3) (counted_took rows.1 keys h4)))))))
+      subst (λ (y : Batch × List ℕ). TookStepBatch bytes y) (ok_is (record { desc = record { lower = lower.0; upper = upper.0; since = since.0 }; parts = keys.0; rows = rows.0 }, keys.1) x k4)
+      (batch_made bytes lower upper since rows keys (number_took total bytes lower h0) (frontier_took total lower.1 upper h1) (number_took total upper.1 since h2) (number_took total since.1 rows h3) (counted_took rows.1 keys h4)))))))
 
   pub step_batch_again : (b : Batch) (rest : List ℕ) → BatchFits b → AreOf shard b.parts → step_batch_at total shard (batch_bytes b ++ rest) ≡ Ok (b, rest)
   unfolding step_batch_at

@@ -1,7 +1,5 @@
 -- Each kind of transition is read as it was written, and keeps its shape.
-use Rattle.std.proofs.Common.{◌≡◌, ◌&&◌, ◌⊎◌, ℕ, zero, suc, ◌+◌, ◌^◌, ◌<◌, ◌≤◌, Bool, true, false, cond, eqb, ltb, List, [], ◌∷◌, ◌++◌, length, Result, Ok, Err, Option, Some, None, refl, sym, ap, subst, ◌∙◌, append_assoc, arith, inl, inr}
-use Rattle.std.specs.Bool.{⊤}
-use Rattle.std.specs.List.{AllByRecursion}
+use Rattle.std.proofs.Common.{◌≡◌, ◌&&◌, ◌⊎◌, ℕ, suc, Bool, true, false, cond, eqb, List, [], ◌∷◌, ◌++◌, Result, Ok, Err, Option, Some, None, refl, sym, ap, subst, ◌∙◌, append_assoc, inl, inr}
 use Rattle.std.proofs.lemmas.Bool.{eqb-true, le-leb, ltb-true}
 use Rattle.store_core.specs.declared.shards.ShardId.{ShardId}
 use Rattle.store_core.specs.declared.part_keys.PartKey.{PartKey}
@@ -13,11 +11,11 @@ use Rattle.state_core.specs.declared.version_faults.VersionFault.{VersionFault}
 use Rattle.state_core.specs.declared.version_faults.VersionFault.TheVariants as faults
 use Rattle.state_core.specs.States.{ShardState}
 use Rattle.state_core.specs.Steps.{init, taken_by, added_by, acts_for, AreKeys}
-use Rattle.state_core.specs.VersionReading.{◌>>=◌, place, byte_at, number_at, frontier_at, kind_at, counted_keys_at, step_batch_at, join_at, one_at, two_at, append_at, merge_at, fields_at, whole_step_at, is_shaped_alone, is_below, step_at}
-use Rattle.state_core.specs.Versions.{number_bytes, frontier_bytes, kind_byte, keys_bytes, batch_bytes, step_bytes, NumberFits, FrontierFits, PartKeysFit, BatchFits, StepFits, AppendFits, MergeFits, IsShapedAlone, IsBelow, before_merge}
-use Rattle.state_core.proofs.ListLemmas.{bool_cases, each_append, each_front, each_back}
+use Rattle.state_core.specs.VersionReading.{place, byte_at, number_at, frontier_at, kind_at, counted_keys_at, step_batch_at, join_at, one_at, two_at, append_at, merge_at, fields_at, whole_step_at, is_shaped_alone, is_below, step_at}
+use Rattle.state_core.specs.Versions.{number_bytes, frontier_bytes, kind_byte, keys_bytes, batch_bytes, step_bytes, NumberFits, FrontierFits, StepFits, IsShapedAlone, IsBelow, before_merge}
+use Rattle.state_core.proofs.ListLemmas.{each_append, each_front, each_back}
 use Rattle.state_core.proofs.Refused.{join_shape, append_shape, merge_shape, shaped_join, shaped_append, shaped_merge}
-use Rattle.state_core.proofs.VersionFields.{bind_then, guard_passed, ok_is, Took, took_then, took_as, byte_took, number_took, number_again, frontier_took, frontier_again, kind_took, kind_again}
+use Rattle.state_core.proofs.VersionFields.{bind_then, guard_passed, ok_is, Took, took_then, byte_took, number_took, number_again, frontier_took, frontier_again, kind_took, kind_again}
 use Rattle.state_core.proofs.VersionMembers.{and_true}
 use Rattle.state_core.proofs.VersionSteps.{AreOf, TookKeys, counted_took, counted_again, TookStepBatch, step_batch_took, step_batch_again}
 
@@ -47,7 +45,7 @@ module _ (total : ℕ) (shard : ShardId) where
       bind_then (kind_at total bytes) _ x e (λ kind h0 k0.
       bind_then (number_at total kind.1) _ x k0 (λ now h1 k1.
       bind_then (number_at total now.1) _ x k1 (λ lease h2 k2.
-          subst (λ (y : Transition × List ℕ). TookStep start y) (ok_is (Join kind.0 now.0 lease.0, lease.1) x k2) (join_made start bytes kind now lease t (kind_took total bytes kind h0) (number_took total kind.1 now h1) (number_took total now.1 lease h2)))))
+      subst (λ (y : Transition × List ℕ). TookStep start y) (ok_is (Join kind.0 now.0 lease.0, lease.1) x k2) (join_made start bytes kind now lease t (kind_took total bytes kind h0) (number_took total kind.1 now h1) (number_took total now.1 lease h2)))))
 
   -- the bytes of a transition with one field
   record IsOne (tag : ℕ) (made : ℕ → Transition) : Type 0 where
@@ -83,7 +81,7 @@ module _ (total : ℕ) (shard : ShardId) where
   two_took tag made start bytes x is t e =
       bind_then (number_at total bytes) _ x e (λ a h0 k0.
       bind_then (number_at total a.1) _ x k0 (λ b h1 k1.
-          subst (λ (y : Transition × List ℕ). TookStep start y) (ok_is (made a.0 b.0, b.1) x k1) (two_made tag made start bytes a b is t (number_took total bytes a h0) (number_took total a.1 b h1))))
+      subst (λ (y : Transition × List ℕ). TookStep start y) (ok_is (made a.0 b.0, b.1) x k1) (two_made tag made start bytes a b is t (number_took total bytes a h0) (number_took total a.1 b h1))))
 
   append_made : (start bytes : List ℕ) (member token expected : ℕ × List ℕ) (new : Option ℕ × List ℕ) (rows weight : ℕ × List ℕ) (keys : List PartKey × List ℕ)
       → TookTag start 6 bytes
@@ -108,12 +106,14 @@ module _ (total : ℕ) (shard : ShardId) where
       let e2 = took_then token.1 (number_bytes expected.0) expected.1 b3 keys.1 t2 e3 in
       let e1 = took_then member.1 (number_bytes token.0) token.1 b2 keys.1 t1 e2 in
       let e0 = took_then bytes (number_bytes member.0) member.1 b1 keys.1 t0 e1 in
-      let e = took_then start (6 ∷ []) bytes (number_bytes member.0 ++ b1) keys.1 t e0 in
-      (record {
-        parts = e.parts;
-        rest_is = e.rest_is;
-        fits = λ h. let f = (e.fits h).1 in record { member_fits = f.0; token_fits = f.1.0; expected_fits = f.1.1.0; new_fits = f.1.1.1.0; rows_fit = f.1.1.1.1.0; weight_fits = f.1.1.1.1.1.0; parts_fit = f.1.1.1.1.1.1 };
-      }, tt)
+      let e = took_then start (6 ∷ []) bytes (number_bytes member.0 ++ b1) keys.1 t e0 in (
+        record {
+          parts = e.parts;
+          rest_is = e.rest_is;
+          fits = λ h. let f = (e.fits h).1 in record { member_fits = f.0; token_fits = f.1.0; expected_fits = f.1.1.0; new_fits = f.1.1.1.0; rows_fit = f.1.1.1.1.0; weight_fits = f.1.1.1.1.1.0; parts_fit = f.1.1.1.1.1.1 };
+        },
+        tt,
+      )
 
   append_took : (start bytes : List ℕ) (x : Transition × List ℕ) → TookTag start 6 bytes → append_at total shard bytes ≡ Ok x → TookStep start x
   unfolding append_at
@@ -125,9 +125,9 @@ module _ (total : ℕ) (shard : ShardId) where
       bind_then (number_at total new.1) _ x k3 (λ rows h4 k4.
       bind_then (number_at total rows.1) _ x k4 (λ weight h5 k5.
       bind_then (counted_keys_at total shard weight.1) _ x k5 (λ keys h6 k6.
-          subst (λ (y : Transition × List ℕ). TookStep start y) (ok_is (Append member.0 token.0 expected.0 new.0 keys.0 rows.0 weight.0, keys.1) x k6)
-              (append_made start bytes member token expected new rows weight keys t (number_took total bytes member h0) (number_took total member.1 token h1) (number_took total token.1 expected h2)
-                  (frontier_took total expected.1 new h3) (number_took total new.1 rows h4) (number_took total rows.1 weight h5) (counted_took total shard weight.1 keys h6)))))))))
+      subst (λ (y : Transition × List ℕ). TookStep start y) (ok_is (Append member.0 token.0 expected.0 new.0 keys.0 rows.0 weight.0, keys.1) x k6)
+      (append_made start bytes member token expected new rows weight keys t (number_took total bytes member h0) (number_took total member.1 token h1) (number_took total token.1 expected h2)
+      (frontier_took total expected.1 new h3) (number_took total new.1 rows h4) (number_took total rows.1 weight h5) (counted_took total shard weight.1 keys h6)))))))))
 
   merge_made : (start bytes : List ℕ) (member token : ℕ × List ℕ) (left right merged : Batch × List ℕ)
       → TookTag start 7 bytes
@@ -144,12 +144,14 @@ module _ (total : ℕ) (shard : ShardId) where
       let e2 = took_then token.1 (batch_bytes left.0) left.1 b3 merged.1 t2.0 e3 in
       let e1 = took_then member.1 (number_bytes token.0) token.1 b2 merged.1 t1 e2 in
       let e0 = took_then bytes (number_bytes member.0) member.1 b1 merged.1 t0 e1 in
-      let e = took_then start (7 ∷ []) bytes (number_bytes member.0 ++ b1) merged.1 t e0 in
-      (record {
-        parts = e.parts;
-        rest_is = e.rest_is;
-        fits = λ h. let f = (e.fits h).1 in record { member_fits = f.0; token_fits = f.1.0; left_fits = f.1.1.0; right_fits = f.1.1.1.0; merged_fits = f.1.1.1.1 };
-      }, each_append (λ (k : PartKey). k.shard ≡ shard) left.0.parts right.0.parts t2.1 t3.1)
+      let e = took_then start (7 ∷ []) bytes (number_bytes member.0 ++ b1) merged.1 t e0 in (
+        record {
+          parts = e.parts;
+          rest_is = e.rest_is;
+          fits = λ h. let f = (e.fits h).1 in record { member_fits = f.0; token_fits = f.1.0; left_fits = f.1.1.0; right_fits = f.1.1.1.0; merged_fits = f.1.1.1.1 };
+        },
+        each_append (λ (k : PartKey). k.shard ≡ shard) left.0.parts right.0.parts t2.1 t3.1,
+      )
 
   merge_took : (start bytes : List ℕ) (x : Transition × List ℕ) → TookTag start 7 bytes → merge_at total shard bytes ≡ Ok x → TookStep start x
   unfolding merge_at
@@ -159,9 +161,9 @@ module _ (total : ℕ) (shard : ShardId) where
       bind_then (step_batch_at total shard token.1) _ x k1 (λ left h2 k2.
       bind_then (step_batch_at total shard left.1) _ x k2 (λ right h3 k3.
       bind_then (step_batch_at total shard right.1) _ x k3 (λ merged h4 k4.
-          subst (λ (y : Transition × List ℕ). TookStep start y) (ok_is (Merge member.0 token.0 left.0 right.0 merged.0, merged.1) x k4)
-              (merge_made start bytes member token left right merged t (number_took total bytes member h0) (number_took total member.1 token h1)
-                  (step_batch_took total shard token.1 left h2) (step_batch_took total shard left.1 right h3) (step_batch_took total shard right.1 merged h4)))))))
+      subst (λ (y : Transition × List ℕ). TookStep start y) (ok_is (Merge member.0 token.0 left.0 right.0 merged.0, merged.1) x k4)
+      (merge_made start bytes member token left right merged t (number_took total bytes member h0) (number_took total member.1 token h1)
+      (step_batch_took total shard token.1 left h2) (step_batch_took total shard left.1 right h3) (step_batch_took total shard right.1 merged h4)))))))
 
   is_tag : (start bytes : List ℕ) (tag n : ℕ) → TookTag start tag bytes → eqb tag n ≡ true → TookTag start n bytes
   is_tag start bytes tag n t h = let e : tag ≡ n = eqb-true tag n h in subst (λ (k : ℕ). TookTag start k bytes) e t
@@ -172,21 +174,28 @@ module _ (total : ℕ) (shard : ShardId) where
       elim (by_test (eqb tag 0) _ _ x e) [
         | inl h ↦ subst (λ (y : Transition × List ℕ). TookStep start y) (ok_is (Init, bytes) x h.1) (is_tag start bytes tag 0 t h.0, tt)
         | inr n ↦ elim (by_test (eqb tag 1) _ _ x n.1) [
-        | inl h ↦ join_took start bytes x (is_tag start bytes tag 1 t h.0) h.1
-        | inr n ↦ elim (by_test (eqb tag 2) _ _ x n.1) [
-        | inl h ↦ one_took 2 Leave start bytes x (record { text = λ m. refl; fit = λ m f. f; none = λ m. tt }) (is_tag start bytes tag 2 t h.0) h.1
-        | inr n ↦ elim (by_test (eqb tag 3) _ _ x n.1) [
-        | inl h ↦ two_took 3 Renew start bytes x (record { text = λ a b. refl; fit = λ a b f g. (f, g); none = λ a b. tt }) (is_tag start bytes tag 3 t h.0) h.1
-        | inr n ↦ elim (by_test (eqb tag 4) _ _ x n.1) [
-        | inl h ↦ two_took 4 Advance start bytes x (record { text = λ a b. refl; fit = λ a b f g. (f, g); none = λ a b. tt }) (is_tag start bytes tag 4 t h.0) h.1
-        | inr n ↦ elim (by_test (eqb tag 5) _ _ x n.1) [
-        | inl h ↦ one_took 5 Expire start bytes x (record { text = λ m. refl; fit = λ m f. f; none = λ m. tt }) (is_tag start bytes tag 5 t h.0) h.1
-        | inr n ↦ elim (by_test (eqb tag 6) _ _ x n.1) [
-        | inl h ↦ append_took start bytes x (is_tag start bytes tag 6 t h.0) h.1
-        | inr n ↦ elim (by_test (eqb tag 7) _ _ x n.1) [
-        | inl h ↦ merge_took start bytes x (is_tag start bytes tag 7 t h.0) h.1
-        | inr n ↦ absurd (let bad : Err (faults.Tag (place total start)) ≡ Ok x = n.1 in cc)
-        ] ] ] ] ] ] ] ]
+          | inl h ↦ join_took start bytes x (is_tag start bytes tag 1 t h.0) h.1
+          | inr n ↦ elim (by_test (eqb tag 2) _ _ x n.1) [
+            | inl h ↦ one_took 2 Leave start bytes x (record { text = λ m. refl; fit = λ m f. f; none = λ m. tt }) (is_tag start bytes tag 2 t h.0) h.1
+            | inr n ↦ elim (by_test (eqb tag 3) _ _ x n.1) [
+              | inl h ↦ two_took 3 Renew start bytes x (record { text = λ a b. refl; fit = λ a b f g. (f, g); none = λ a b. tt }) (is_tag start bytes tag 3 t h.0) h.1
+              | inr n ↦ elim (by_test (eqb tag 4) _ _ x n.1) [
+                | inl h ↦ two_took 4 Advance start bytes x (record { text = λ a b. refl; fit = λ a b f g. (f, g); none = λ a b. tt }) (is_tag start bytes tag 4 t h.0) h.1
+                | inr n ↦ elim (by_test (eqb tag 5) _ _ x n.1) [
+                  | inl h ↦ one_took 5 Expire start bytes x (record { text = λ m. refl; fit = λ m f. f; none = λ m. tt }) (is_tag start bytes tag 5 t h.0) h.1
+                  | inr n ↦ elim (by_test (eqb tag 6) _ _ x n.1) [
+                    | inl h ↦ append_took start bytes x (is_tag start bytes tag 6 t h.0) h.1
+                    | inr n ↦ elim (by_test (eqb tag 7) _ _ x n.1) [
+                      | inl h ↦ merge_took start bytes x (is_tag start bytes tag 7 t h.0) h.1
+                      | inr n ↦ absurd (let bad : Err (faults.Tag (place total start)) ≡ Ok x = n.1 in cc)
+                    ]
+                  ]
+                ]
+              ]
+            ]
+          ]
+        ]
+      ]
 
   pub whole_took : (bytes : List ℕ) (x : Transition × List ℕ) → whole_step_at total shard bytes ≡ Ok x → TookStep bytes x
   unfolding whole_step_at
@@ -218,8 +227,15 @@ module _ (total : ℕ) (shard : ShardId) where
       let text : List ℕ = number_bytes member ++ (number_bytes token ++ (number_bytes expected ++ (frontier_bytes new ++ (number_bytes rows ++ (number_bytes weight ++ keys_bytes parts))))) in
       let regrouped : text ++ rest ≡ number_bytes member ++ r1 = simp append_assoc in
       ap (append_at total shard) regrouped
-      ∙ rw (number_again total member r1 f.member_fits, number_again total token r2 f.token_fits, number_again total expected r3 f.expected_fits, frontier_again total new r4 f.new_fits,
-          number_again total rows r5 f.rows_fit, number_again total weight r6 f.weight_fits, counted_again total shard parts rest f.parts_fit a) refl
+      ∙ rw (
+        number_again total member r1 f.member_fits,
+        number_again total token r2 f.token_fits,
+        number_again total expected r3 f.expected_fits,
+        frontier_again total new r4 f.new_fits,
+        number_again total rows r5 f.rows_fit,
+        number_again total weight r6 f.weight_fits,
+        counted_again total shard parts rest f.parts_fit a,
+      ) refl
   whole_again (Merge member token left right merged) rest f t a =
       let r4 = batch_bytes merged ++ rest in
       let r3 = batch_bytes right ++ r4 in
@@ -228,8 +244,13 @@ module _ (total : ℕ) (shard : ShardId) where
       let text : List ℕ = number_bytes member ++ (number_bytes token ++ (batch_bytes left ++ (batch_bytes right ++ batch_bytes merged))) in
       let regrouped : text ++ rest ≡ number_bytes member ++ r1 = grouped (number_bytes member) (number_bytes token) (batch_bytes left) (batch_bytes right) (batch_bytes merged) rest in
       ap (merge_at total shard) regrouped
-      ∙ rw (number_again total member r1 f.member_fits, number_again total token r2 f.token_fits, step_batch_again total shard left r3 f.left_fits (each_front (λ (k : PartKey). k.shard ≡ shard) left.parts right.parts t),
-          step_batch_again total shard right r4 f.right_fits (each_back (λ (k : PartKey). k.shard ≡ shard) left.parts right.parts t), step_batch_again total shard merged rest f.merged_fits a) refl
+      ∙ rw (
+        number_again total member r1 f.member_fits,
+        number_again total token r2 f.token_fits,
+        step_batch_again total shard left r3 f.left_fits (each_front (λ (k : PartKey). k.shard ≡ shard) left.parts right.parts t),
+        step_batch_again total shard right r4 f.right_fits (each_back (λ (k : PartKey). k.shard ≡ shard) left.parts right.parts t),
+        step_batch_again total shard merged rest f.merged_fits a,
+      ) refl
     where
       grouped : (a b c d e r : List ℕ) → (a ++ (b ++ (c ++ (d ++ e)))) ++ r ≡ a ++ (b ++ (c ++ (d ++ (e ++ r))))
       grouped a b c d e r = simp append_assoc
@@ -290,10 +311,10 @@ module _ (total : ℕ) where
   unfolding step_at
   step_took s bytes x e =
       bind_then (whole_step_at total s.shard bytes) _ x e (λ y h k.
-          let (passes, is) = guard_passed (is_shaped_alone s.shard y.0 && is_below (acts_for y.0) s.next_member) _ y x k in
-          let (shape, below) = and_true (is_shaped_alone s.shard y.0) _ passes in
-          let t = whole_took total s.shard bytes y h in
-          subst (λ (z : Transition × List ℕ). ReadStep s bytes z) is (record { took = t.0; taken = t.1; shape = shape_holds s.shard y.0 shape; known = below_holds (acts_for y.0) s.next_member below }))
+      let (passes, is) = guard_passed (is_shaped_alone s.shard y.0 && is_below (acts_for y.0) s.next_member) _ y x k in
+      let (shape, below) = and_true (is_shaped_alone s.shard y.0) _ passes in
+      let t = whole_took total s.shard bytes y h in
+      subst (λ (z : Transition × List ℕ). ReadStep s bytes z) is (record { took = t.0; taken = t.1; shape = shape_holds s.shard y.0 shape; known = below_holds (acts_for y.0) s.next_member below }))
 
   pub step_again : (s : ShardState) (x : Transition) (rest : List ℕ) → StepFits x → AreOf s.shard (taken_by x) → IsShapedAlone s.shard x → IsBelow (acts_for x) s.next_member → step_at total s (step_bytes x ++ rest) ≡ Ok (x, rest)
   unfolding step_at
