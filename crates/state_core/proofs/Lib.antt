@@ -12,3 +12,15 @@ pub mod MemberChanges
 pub mod Applied
 pub mod Staying
 pub mod NoMemory
+pub mod VersionWriting
+pub mod VersionFields
+pub mod VersionMembers
+pub mod VersionMemberLists
+pub mod VersionKeys
+pub mod VersionBatches
+pub mod VersionBatchRules
+pub mod VersionBatchLists
+pub mod VersionSteps
+pub mod VersionTransitions
+pub mod VersionStates
+pub mod VersionFacts

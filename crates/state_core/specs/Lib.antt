@@ -3,3 +3,5 @@ pub mod States
 pub mod Steps
 pub mod Refusals
 pub mod Applying
+pub mod Versions
+pub mod VersionReading

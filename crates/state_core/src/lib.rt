@@ -10,6 +10,10 @@ mod refusals;
 mod refusing;
 mod states;
 mod transitions;
+mod version_encoding;
+mod version_faults;
+mod version_fields;
+pub mod version_laws;
 
 pub use kinds::Kind;
 pub use member_lists::MemberList;
@@ -17,3 +21,5 @@ pub use members::Member;
 pub use refusals::Refusal;
 pub use states::State;
 pub use transitions::Transition;
+pub use version_encoding::encode_version;
+pub use version_faults::VersionFault;
