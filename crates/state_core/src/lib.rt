@@ -8,6 +8,8 @@ mod members;
 mod refusals;
 mod states;
 mod transitions;
+mod version_faults;
+mod version_fields;
 
 pub use kinds::Kind;
 pub use member_lists::MemberList;
@@ -15,3 +17,4 @@ pub use members::Member;
 pub use refusals::Refusal;
 pub use states::State;
 pub use transitions::Transition;
+pub use version_faults::VersionFault;
