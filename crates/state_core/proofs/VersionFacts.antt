@@ -3,7 +3,7 @@ use Rattle.std.proofs.Common.{◌≡◌, ℕ, List, Some}
 use Rattle.store_core.specs.declared.shards.ShardId.{ShardId}
 use Rattle.state_core.specs.declared.transitions.Transition.{Transition}
 use Rattle.state_core.specs.States.{ShardState, IsState}
-use Rattle.state_core.specs.Versions.{version_in}
+use Rattle.state_core.specs.VersionReading.{version_in}
 
 pub version_in_state : (shard : ShardId) (n : ℕ) (b : List ℕ) (s : ShardState) (x : Transition) → version_in shard n b ≡ Some (s, x) → IsState s
 unfolding version_in
