@@ -6,4 +6,3 @@ pub mod Rules
 pub mod Determined
 pub mod Refused
 pub mod Rising
-pub mod VersionFacts
