@@ -4,3 +4,4 @@ pub mod Discipline
 pub mod Stands
 pub mod Laws
 pub mod Worked
+pub mod WorkedTrail

@@ -1,4 +1,4 @@
--- A worked history over one shard: a writer, a keeper and a reader join; two appends; a merge; the reader leaves; the merged parts are collected.
+-- A worked history over one shard: a writer, a keeper and a reader join; two appends; a merge; the reader leaves; the keeper renews its hold; the merged parts are collected.
 use Rattle.std.specs.Prelude.{ℕ, ◌+◌, pos, List, [], ◌∷◌, Option, Some, None, take, drop}
 use Rattle.update_core.specs.declared.updates.Update.{Update}
 use Rattle.store_core.specs.declared.shards.ShardId.{ShardId}
@@ -8,7 +8,7 @@ use Rattle.part_codec.specs.Parts.{spelling}
 use Rattle.state_core.specs.declared.kinds.Kind.TheVariants.{Writer, Reader, Keeper}
 use Rattle.state_core.specs.declared.members.Member.{Member}
 use Rattle.state_core.specs.declared.transitions.Transition.{Transition}
-use Rattle.state_core.specs.declared.transitions.Transition.TheVariants.{Init, Join, Leave, Append, Merge}
+use Rattle.state_core.specs.declared.transitions.Transition.TheVariants.{Init, Join, Leave, Renew, Append, Merge}
 use Rattle.state_core.specs.States.{ShardState}
 use Rattle.state_core.specs.Steps.{init}
 use Rattle.state_core.specs.Versions.{version_spelling}
@@ -26,8 +26,8 @@ abbrev pub writer : ℕ → Member
 writer token = record { number = 0; kind = Writer; since = 0; hold = 0; beat = 0; lease = 0; token = token }
 
 -- member 1, which merges
-abbrev pub keeper : ℕ → ℕ → Member
-keeper hold token = record { number = 1; kind = Keeper; since = 0; hold = hold; beat = 0; lease = 100; token = token }
+abbrev pub keeper : ℕ → ℕ → ℕ → Member
+keeper hold beat token = record { number = 1; kind = Keeper; since = 0; hold = hold; beat = beat; lease = 100; token = token }
 
 -- member 2, which reads
 abbrev pub reader : Member
@@ -59,23 +59,25 @@ late_part = spelling (late_row ∷ [])
 unfoldable pub merged_part : List ℕ
 merged_part = spelling (early_row ∷ late_row ∷ [])
 
--- the states of versions 0 to 7
+-- the states of versions 0 to 8
 abbrev pub state0 : ShardState
 state0 = init the_shard
 abbrev pub state1 : ShardState
 state1 = record state0 { number = 1; next_member = 1; members = writer 0 ∷ [] }
 abbrev pub state2 : ShardState
-state2 = record state0 { number = 2; next_member = 2; members = writer 0 ∷ keeper 2 0 ∷ [] }
+state2 = record state0 { number = 2; next_member = 2; members = writer 0 ∷ keeper 2 0 0 ∷ [] }
 abbrev pub state3 : ShardState
-state3 = record state0 { number = 3; next_member = 3; members = writer 0 ∷ keeper 2 0 ∷ reader ∷ [] }
+state3 = record state0 { number = 3; next_member = 3; members = writer 0 ∷ keeper 2 0 0 ∷ reader ∷ [] }
 abbrev pub state4 : ShardState
-state4 = record state3 { number = 4; members = writer 1 ∷ keeper 2 0 ∷ reader ∷ []; upper = Some 5; weight = 1; batches = early_batch ∷ [] }
+state4 = record state3 { number = 4; members = writer 1 ∷ keeper 2 0 0 ∷ reader ∷ []; upper = Some 5; weight = 1; batches = early_batch ∷ [] }
 abbrev pub state5 : ShardState
-state5 = record state3 { number = 5; members = writer 2 ∷ keeper 2 0 ∷ reader ∷ []; upper = Some 10; weight = 2; batches = early_batch ∷ late_batch ∷ [] }
+state5 = record state3 { number = 5; members = writer 2 ∷ keeper 2 0 0 ∷ reader ∷ []; upper = Some 10; weight = 2; batches = early_batch ∷ late_batch ∷ [] }
 abbrev pub state6 : ShardState
-state6 = record state5 { number = 6; members = writer 2 ∷ keeper 6 1 ∷ reader ∷ []; batches = merged_batch ∷ [] }
+state6 = record state5 { number = 6; members = writer 2 ∷ keeper 6 0 1 ∷ reader ∷ []; batches = merged_batch ∷ [] }
 abbrev pub state7 : ShardState
-state7 = record state6 { number = 7; members = writer 2 ∷ keeper 6 1 ∷ [] }
+state7 = record state6 { number = 7; members = writer 2 ∷ keeper 6 0 1 ∷ [] }
+abbrev pub state8 : ShardState
+state8 = record state7 { number = 8; members = writer 2 ∷ keeper 8 50 1 ∷ [] }
 
 -- the transitions that make them
 abbrev pub step1 : Transition
@@ -92,8 +94,10 @@ abbrev pub step6 : Transition
 step6 = Merge 1 1 early_batch late_batch merged_batch
 abbrev pub step7 : Transition
 step7 = Leave 2
+abbrev pub step8 : Transition
+step8 = Renew 1 50
 
--- the bytes of versions 0 to 7
+-- the bytes of versions 0 to 8
 unfoldable pub version0 : List ℕ
 version0 = version_spelling state0 Init
 unfoldable pub version1 : List ℕ
@@ -110,3 +114,5 @@ unfoldable pub version6 : List ℕ
 version6 = version_spelling state6 step6
 unfoldable pub version7 : List ℕ
 version7 = version_spelling state7 step7
+unfoldable pub version8 : List ℕ
+version8 = version_spelling state8 step8
