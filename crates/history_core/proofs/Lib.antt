@@ -6,3 +6,4 @@ pub mod WorkedFacts
 pub mod WorkedWriter
 pub mod WorkedKeeper
 pub mod WorkedReader
+pub mod WorkedLaw
