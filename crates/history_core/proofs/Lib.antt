@@ -7,3 +7,4 @@ pub mod WorkedWriter
 pub mod WorkedKeeper
 pub mod WorkedReader
 pub mod WorkedLaw
+pub mod WorkedAccepted

@@ -7,6 +7,7 @@ use Rattle.store_core.specs.Stores.{empty_store}
 use Rattle.store_core.specs.Histories.{History}
 use Rattle.store_core.specs.Ports.{Answered, mine, OfOthers, with_entries}
 use Rattle.store_core.proofs.PortLaws.{mine_from-others}
+use Rattle.std.proofs.lemmas.List.{take-append-drop}
 use Rattle.history_core.specs.Discipline.{OwnLawful, Lawful}
 use Rattle.history_core.specs.WorkedTrail.{trail, worked, first_calls}
 use Rattle.history_core.proofs.Prefixes.{prefix_lawful}
@@ -31,3 +32,6 @@ three_clients h a b d all (suc (suc (suc c))) =
 
 pub worked_lawful : Lawful worked
 worked_lawful = three_clients worked writer_lawful keeper_lawful reader_lawful (search arith)
+
+pub prefixes_lawful : (n : ℕ) → Lawful (first_calls n)
+prefixes_lawful n = prefix_lawful (first_calls n) (drop n trail) (subst (λ (es : List Entry). Lawful (record { start = empty_store; trail = es })) (sym (take-append-drop n trail)) worked_lawful)
