@@ -8,3 +8,4 @@ pub mod WorkedKeeper
 pub mod WorkedReader
 pub mod WorkedLaw
 pub mod WorkedAccepted
+pub mod WorkedBrokenReadings

@@ -5,3 +5,4 @@ pub mod Stands
 pub mod Laws
 pub mod Worked
 pub mod WorkedTrail
+pub mod WorkedBroken
