@@ -9,3 +9,6 @@ pub mod WorkedReader
 pub mod WorkedLaw
 pub mod WorkedAccepted
 pub mod WorkedBrokenReadings
+pub mod OneMore
+pub mod WorkedParted
+pub mod WorkedBrokenSets
