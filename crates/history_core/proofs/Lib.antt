@@ -12,3 +12,5 @@ pub mod WorkedBrokenReadings
 pub mod OneMore
 pub mod WorkedParted
 pub mod WorkedBrokenSets
+pub mod WorkedBrokenAppends
+pub mod WorkedBrokenCas
