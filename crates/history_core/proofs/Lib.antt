@@ -14,3 +14,4 @@ pub mod WorkedParted
 pub mod WorkedBrokenSets
 pub mod WorkedBrokenAppends
 pub mod WorkedBrokenCas
+pub mod WorkedBrokenScans
