@@ -15,3 +15,4 @@ pub mod WorkedBrokenSets
 pub mod WorkedBrokenAppends
 pub mod WorkedBrokenCas
 pub mod WorkedBrokenScans
+pub mod WorkedStarts

@@ -31,7 +31,7 @@ newest false o own e l = absurd (cc)
 pub one_more : (h : History) (e : Entry) → Lawful h → Allows (reverse (mine h e.client)) e.call → Lawful (with_entry h e)
 one_more h e l a c =
     subst OwnLawful (sym (turned h e c))
-      (grown (e.client == c) (answered e (reply (store_after h) e)) (reverse (mine h c)) (λ is. subst (λ (n : ℕ). Allows (reverse (mine h n)) e.call) (same e.client c is) a) (l c))
+    (grown (e.client == c) (answered e (reply (store_after h) e)) (reverse (mine h c)) (λ is. subst (λ (n : ℕ). Allows (reverse (mine h n)) e.call) (same e.client c is) a) (l c))
 
 -- the last call of a lawful history is allowed
 pub last_allowed : (h : History) (e : Entry) → Lawful (with_entry h e) → Allows (reverse (mine h e.client)) e.call

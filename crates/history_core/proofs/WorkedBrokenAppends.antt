@@ -28,7 +28,7 @@ pub appends_stored : Lawful append_unstored → ⊥
 appends_stored l =
     let a : CasAllowed (reverse (mine (first_calls 7) 0)) the_shard 3 version4 = last_allowed (first_calls 7) (did 0 (Cas the_shard (Some 3) version4)) l in
     let h : AppendHolds (reverse (mine (first_calls 7) 0)) 0 (Some 5) (key 0 1 ∷ []) 1 1 =
-      subst (Holds (reverse (mine (first_calls 7) 0))) (sym (step_is state4 step4 reads4 a)) a.holds in
+    subst (Holds (reverse (mine (first_calls 7) 0))) (sym (step_is state4 step4 reads4 a)) a.holds in
     nothing_stored h.hold.0 h.hold.3
 
 one_row_less : ◌≡◌ {A = List Update} [] (early_row ∷ []) → ⊥
@@ -38,9 +38,9 @@ pub appends_in_range : Lawful append_out_of_range → ⊥
 appends_in_range l =
     let a : CasAllowed (reverse (mine (with_part early_part) 0)) the_shard 3 short_version = last_allowed (first_calls 8) (did 0 (Cas the_shard (Some 3) short_version)) l in
     let h : AppendHolds (reverse (mine (with_part early_part) 0)) 0 (Some 1) (key 0 1 ∷ []) 1 1 =
-      subst (Holds (reverse (mine (with_part early_part) 0))) (sym (step_is (one_row_state 1 1) (one_row_to 1 1) reads_short a)) a.holds in
+    subst (Holds (reverse (mine (with_part early_part) 0))) (sym (step_is (one_row_state 1 1) (one_row_to 1 1) reads_short a)) a.holds in
     let us : h.updates ≡ early_row ∷ [] =
-      one_part (StoredAs (reverse (mine (with_part early_part) 0))) (key 0 1) early_part (early_row ∷ []) h.updates (stored_only early_part) reads_early h.hold in
+    one_part (StoredAs (reverse (mine (with_part early_part) 0))) (key 0 1) early_part (early_row ∷ []) h.updates (stored_only early_part) reads_early h.hold in
     one_row_less (subst (λ (rows : List Update). between (Some 0) (Some 1) rows ≡ rows) us h.in_range)
 
 not_some : (rows : List Update) → ◌≡◌ {A = Option (List Update)} None (Some rows) → ⊥
@@ -50,7 +50,7 @@ pub appends_rising : Lawful append_falling → ⊥
 appends_rising l =
     let a : CasAllowed (reverse (mine (with_part falling_part) 0)) the_shard 3 two_rows_version = last_allowed (with_part falling_part) (did 0 (Cas the_shard (Some 3) two_rows_version)) l in
     let h : AppendHolds (reverse (mine (with_part falling_part) 0)) 0 (Some 10) (key 0 1 ∷ []) 2 2 =
-      subst (Holds (reverse (mine (with_part falling_part) 0))) (sym (step_is two_rows_state two_rows reads_two_rows a)) a.holds in
+    subst (Holds (reverse (mine (with_part falling_part) 0))) (sym (step_is two_rows_state two_rows reads_two_rows a)) a.holds in
     not_some h.hold.1 (sym reads_falling ∙ ap rows_in (sym (stored_only falling_part h.hold.0 h.hold.3)) ∙ h.hold.4)
 
 two_not_one : ◌≡◌ {A = ℕ} 2 1 → ⊥
@@ -60,9 +60,9 @@ pub appends_counted : Lawful append_too_many → ⊥
 appends_counted l =
     let a : CasAllowed (reverse (mine (with_part merged_part) 0)) the_shard 3 few_version = last_allowed (with_part merged_part) (did 0 (Cas the_shard (Some 3) few_version)) l in
     let h : AppendHolds (reverse (mine (with_part merged_part) 0)) 0 (Some 10) (key 0 1 ∷ []) 1 2 =
-      subst (Holds (reverse (mine (with_part merged_part) 0))) (sym (step_is (one_row_state 10 2) (one_row_to 10 2) reads_few a)) a.holds in
+    subst (Holds (reverse (mine (with_part merged_part) 0))) (sym (step_is (one_row_state 10 2) (one_row_to 10 2) reads_few a)) a.holds in
     let us : h.updates ≡ early_row ∷ late_row ∷ [] =
-      one_part (StoredAs (reverse (mine (with_part merged_part) 0))) (key 0 1) merged_part (early_row ∷ late_row ∷ []) h.updates (stored_only merged_part) reads_merged h.hold in
+    one_part (StoredAs (reverse (mine (with_part merged_part) 0))) (key 0 1) merged_part (early_row ∷ late_row ∷ []) h.updates (stored_only merged_part) reads_merged h.hold in
     two_not_one (subst (λ (rows : List Update). length rows ≡ 1) us h.count)
 
 two_above_one : 2 ≤ 1 → ⊥
@@ -72,7 +72,7 @@ pub appends_weighed : Lawful append_too_heavy → ⊥
 appends_weighed l =
     let a : CasAllowed (reverse (mine (with_part heavy_part) 0)) the_shard 3 version4 = last_allowed (with_part heavy_part) (did 0 (Cas the_shard (Some 3) version4)) l in
     let h : AppendHolds (reverse (mine (with_part heavy_part) 0)) 0 (Some 5) (key 0 1 ∷ []) 1 1 =
-      subst (Holds (reverse (mine (with_part heavy_part) 0))) (sym (step_is state4 step4 reads4 a)) a.holds in
+    subst (Holds (reverse (mine (with_part heavy_part) 0))) (sym (step_is state4 step4 reads4 a)) a.holds in
     let us : h.updates ≡ heavy_row ∷ [] =
-      one_part (StoredAs (reverse (mine (with_part heavy_part) 0))) (key 0 1) heavy_part (heavy_row ∷ []) h.updates (stored_only heavy_part) reads_heavy h.hold in
+    one_part (StoredAs (reverse (mine (with_part heavy_part) 0))) (key 0 1) heavy_part (heavy_row ∷ []) h.updates (stored_only heavy_part) reads_heavy h.hold in
     two_above_one (subst (λ (rows : List Update). weight_of rows ≤ 1) us h.light)

@@ -33,10 +33,24 @@ joins_not o s x m e h = subst (λ (p : Option (ShardState × Transition)). Joins
 
 keeper_is_not_reader : OwnsSome (reverse (mine (first_calls 17) 1)) the_shard (Some 2) → ⊥
 keeper_is_not_reader h = elim h [
-    inl a ↦ joins_not _ state6 step6 2 reads6 a.1
-  | inr b ↦ elim b [ inl a ↦ a | inr c ↦ elim c [ inl a ↦ a | inr d ↦ elim d [ inl a ↦ a | inr f ↦ elim f [ inl a ↦ a | inr g ↦ elim g [
-      inl a ↦ two_not_three (joins_not _ state2 step2 2 reads2 a.1)
-    | inr k ↦ elim k [ inl a ↦ a | inr n ↦ n ] ] ] ] ] ] ]
+  | inl a ↦ joins_not _ state6 step6 2 reads6 a.1
+  | inr b ↦ elim b [
+    | inl a ↦ a
+    | inr c ↦ elim c [
+      | inl a ↦ a
+      | inr d ↦ elim d [
+        | inl a ↦ a
+        | inr f ↦ elim f [
+          | inl a ↦ a
+          | inr g ↦ elim g [
+            | inl a ↦ two_not_three (joins_not _ state2 step2 2 reads2 a.1)
+            | inr k ↦ elim k [ inl a ↦ a | inr n ↦ n ]
+          ]
+        ]
+      ]
+    ]
+  ]
+]
 
 pub cas_own : Lawful cas_for_another → ⊥
 cas_own l =
@@ -52,9 +66,13 @@ zero_not_three e = omega arith
 -- what the writer was shown at version 3 is state 3
 shown_three : (s : ShardState) → ShowsState (reverse (mine (first_calls 8) 0)) the_shard 3 s → s ≡ state3
 shown_three s (b, x, shown, reads) =
-    let is : b ≡ version3 = elim shown [ inl a ↦ absurd a | inr c ↦ elim c [
-          inl a ↦ elim a.1 [ inl d ↦ absurd (two_not_three d.0) | inr f ↦ elim f [ inl g ↦ sym g.1 | inr k ↦ absurd k ] ]
-        | inr d ↦ elim d [ inl a ↦ absurd (one_not_three a.1) | inr f ↦ elim f [ inl a ↦ absurd (zero_not_three a.1) | inr k ↦ absurd k ] ] ] ] in
+    let is : b ≡ version3 = elim shown [
+      | inl a ↦ absurd a
+      | inr c ↦ elim c [
+        | inl a ↦ elim a.1 [ inl d ↦ absurd (two_not_three d.0) | inr f ↦ elim f [ inl g ↦ sym g.1 | inr k ↦ absurd k ] ]
+        | inr d ↦ elim d [ inl a ↦ absurd (one_not_three a.1) | inr f ↦ elim f [ inl a ↦ absurd (zero_not_three a.1) | inr k ↦ absurd k ] ]
+      ]
+    ] in
     ap (λ (p : ShardState × Transition). p.0) (one_value (version_in the_shard 3 b) (s, x) (state3, step3) reads (ap (version_in the_shard 3) is ∙ reads3))
 
 not_made : Applies state3 step4 forgetful_state → ⊥
@@ -83,9 +101,9 @@ pub merge_keeps : Lawful merge_dropping → ⊥
 merge_keeps l =
     let a : CasAllowed (reverse (mine with_dropped 1)) the_shard 5 dropping_version = last_allowed with_dropped (did 1 (Cas the_shard (Some 5) dropping_version)) l in
     let h : MergeHolds (reverse (mine with_dropped 1)) early_batch late_batch dropping_batch =
-      subst (Holds (reverse (mine with_dropped 1))) (sym (step_is dropping_state dropping reads_dropping a)) a.holds in
+    subst (Holds (reverse (mine with_dropped 1))) (sym (step_is dropping_state dropping reads_dropping a)) a.holds in
     let ins : h.inputs ≡ early_row ∷ late_row ∷ [] =
-      two_parts (GotAs (reverse (mine with_dropped 1))) (key 0 1) (key 0 2) early_part late_part (early_row ∷ []) (late_row ∷ []) h.inputs got_early reads_early got_late reads_late h.read in
+    two_parts (GotAs (reverse (mine with_dropped 1))) (key 0 1) (key 0 2) early_part late_part (early_row ∷ []) (late_row ∷ []) h.inputs got_early reads_early got_late reads_late h.read in
     let outs : h.outputs ≡ early_row ∷ [] =
-      one_part (StoredAs (reverse (mine with_dropped 1))) (key 1 1) early_part (early_row ∷ []) h.outputs stored_only reads_early h.hold in
+    one_part (StoredAs (reverse (mine with_dropped 1))) (key 1 1) early_part (early_row ∷ []) h.outputs stored_only reads_early h.hold in
     row_lost (subst (λ (us : List Update). IsCons (moved (early_row ∷ late_row ∷ []) 0) us) outs (subst (λ (us : List Update). IsCons (moved us 0) h.outputs) ins h.cons))

@@ -18,20 +18,51 @@ merged_is = record { rising = ((refl, tt), (tt, tt)); nonzero = ((λ e. cc), ((�
 
 -- the keeper may set its key to any bytes, once it has read what it merges
 pub may_set_merged : (b : List ℕ) → SetAllowed (reverse (mine (first_calls 14) 1)) (key 1 1) b
-may_set_merged b = record { owned = inr (inr (inr (inl (refl, joins1))));
+may_set_merged b = record {
+  owned = inr (inr (inr (inl (refl, joins1))));
   fresh = λ h. elim h [ inl a ↦ a | inr b ↦ elim b [ inl a ↦ a | inr d ↦ elim d [ inl a ↦ a | inr f ↦ elim f [ inl a ↦ spends_not _ state2 step2 1 1 reads2 (λ p. p) a.1 | inr g ↦ elim g [ inl a ↦ a | inr k ↦ k ] ] ] ] ];
-  same = (tt, (tt, (tt, (tt, (tt, tt))))) }
+  same = (tt, (tt, (tt, (tt, (tt, tt)))));
+}
 
 pub keeper_lawful : OwnLawful (reverse (mine worked 1))
-keeper_lawful =
-    (record { from = state7; to = state8; step = step8; shown = (version7, step7, inl (refl, inl (refl, refl)), reads7); written = reads8; applies = applies8; owned = inr (inr (inr (inr (inr (inr (inl (refl, joins1))))))); holds = tt },
-    (tt,
-    (record { from = state5; to = state6; step = step6; shown = (version5, step5, inr (inr (inr (inl (refl, inr (inr (inl (refl, refl))))))), reads5); written = reads6; applies = applies6; owned = inr (inr (inr (inr (inl (refl, joins1)))));
-       holds = record { inputs = early_row ∷ late_row ∷ []; outputs = early_row ∷ late_row ∷ [];
-         read = (early_part, early_row ∷ [], late_row ∷ [], inr (inr (inl (refl, refl))), reads_early, refl, (late_part, late_row ∷ [], [], inr (inl (refl, refl)), reads_late, refl, refl));
-         hold = (merged_part, early_row ∷ late_row ∷ [], [], inl (refl, refl), reads_merged, refl, refl);
-         cons = merged_is; count = refl } },
-    (may_set_merged merged_part,
-    (tt, (tt, (tt,
-    (record { from = state1; to = state2; step = step2; shown = (version1, step1, inl (refl, inr (inl (refl, refl))), reads1); written = reads2; applies = applies2; owned = tt; holds = tt },
-    (tt, tt)))))))))
+keeper_lawful = (
+  record { from = state7; to = state8; step = step8; shown = (version7, step7, inl (refl, inl (refl, refl)), reads7); written = reads8; applies = applies8; owned = inr (inr (inr (inr (inr (inr (inl (refl, joins1))))))); holds = tt },
+  (
+    tt,
+    (
+      record {
+        from = state5;
+        to = state6;
+        step = step6;
+        shown = (version5, step5, inr (inr (inr (inl (refl, inr (inr (inl (refl, refl))))))), reads5);
+        written = reads6;
+        applies = applies6;
+        owned = inr (inr (inr (inr (inl (refl, joins1)))));
+        holds = record {
+          inputs = early_row ∷ late_row ∷ [];
+          outputs = early_row ∷ late_row ∷ [];
+          read = (early_part, early_row ∷ [], late_row ∷ [], inr (inr (inl (refl, refl))), reads_early, refl, (late_part, late_row ∷ [], [], inr (inl (refl, refl)), reads_late, refl, refl));
+          hold = (merged_part, early_row ∷ late_row ∷ [], [], inl (refl, refl), reads_merged, refl, refl);
+          cons = merged_is;
+          count = refl;
+        };
+      },
+      (
+        may_set_merged merged_part,
+        (
+          tt,
+          (
+            tt,
+            (
+              tt,
+              (
+                record { from = state1; to = state2; step = step2; shown = (version1, step1, inl (refl, inr (inl (refl, refl))), reads1); written = reads2; applies = applies2; owned = tt; holds = tt },
+                (tt, tt),
+              ),
+            ),
+          ),
+        ),
+      ),
+    ),
+  ),
+)

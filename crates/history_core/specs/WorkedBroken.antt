@@ -61,6 +61,7 @@ truncate_past_floor = first_calls_and 23 2 (Truncate the_shard 9)
 -- a state without the reader, said to come of the first append
 abbrev pub forgetful_state : ShardState
 forgetful_state = record state4 { members = writer 1 ∷ keeper 2 0 0 ∷ [] }
+
 unfoldable pub forgetful_version : List ℕ
 forgetful_version = version_spelling forgetful_state step4
 
@@ -83,26 +84,33 @@ few_version = version_spelling (one_row_state 10 2) (one_row_to 10 2)
 -- an append of two rows, to be of a part that is none since its rows fall
 abbrev pub two_rows : Transition
 two_rows = Append 0 1 0 (Some 10) (key 0 1 ∷ []) 2 2
+
 abbrev pub two_rows_state : ShardState
 two_rows_state = record state4 { upper = Some 10; weight = 2; batches = batch 0 10 (key 0 1) 2 ∷ [] }
+
 unfoldable pub two_rows_version : List ℕ
 two_rows_version = version_spelling two_rows_state two_rows
+
 unfoldable pub falling_part : List ℕ
 falling_part = spelling (late_row ∷ early_row ∷ [])
 
 -- a part whose row weighs two
 abbrev pub heavy_row : Update
 heavy_row = record early_row { diff = pos 2 }
+
 unfoldable pub heavy_part : List ℕ
 heavy_part = spelling (heavy_row ∷ [])
 
 -- a merge that drops the second row
 abbrev pub dropping_batch : Batch
 dropping_batch = batch 0 10 (key 1 1) 1
+
 abbrev pub dropping : Transition
 dropping = Merge 1 1 early_batch late_batch dropping_batch
+
 abbrev pub dropping_state : ShardState
 dropping_state = record state5 { number = 6; members = writer 2 ∷ keeper 6 0 1 ∷ reader ∷ []; batches = dropping_batch ∷ [] }
+
 unfoldable pub dropping_version : List ℕ
 dropping_version = version_spelling dropping_state dropping
 
