@@ -16,3 +16,5 @@ pub mod WorkedBrokenAppends
 pub mod WorkedBrokenCas
 pub mod WorkedBrokenScans
 pub mod WorkedStarts
+pub mod WorkedFailed
+pub mod WorkedStands

@@ -37,7 +37,7 @@ early_part_not_late e =
 pub sets_same : Lawful set_other_bytes → ⊥
 sets_same l = early_part_not_late ((last_allowed (first_calls 8) (did 0 (Set (key 0 1) late_part)) l).same.0 refl)
 
-spent : SpendsIn (version_in the_shard 4 version4) 0 1
+pub spent : SpendsIn (version_in the_shard 4 version4) 0 1
 spent = subst (λ (o : Option (ShardState × Transition)). SpendsIn o 0 1) (sym reads4) (refl, refl)
 
 pub sets_before_cas : Lawful set_after_cas → ⊥

@@ -13,7 +13,7 @@ use Rattle.history_core.proofs.WorkedParts.{reads_early, reads_late}
 use Rattle.history_core.proofs.WorkedStates.{applies1, applies4, applies5}
 use Rattle.history_core.proofs.WorkedFacts.{spends_not, joins0, one_not_two, early_not_late}
 
-early_rises : Rising (early_row ∷ [])
+pub early_rises : Rising (early_row ∷ [])
 unfolding IsStrictlySortedBy
 early_rises = (tt, tt)
 

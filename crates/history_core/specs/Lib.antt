@@ -6,3 +6,4 @@ pub mod Laws
 pub mod Worked
 pub mod WorkedTrail
 pub mod WorkedBroken
+pub mod WorkedFailures

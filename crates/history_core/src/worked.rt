@@ -1,11 +1,35 @@
 // A worked history and what is shown of it, each the contract of a function that does nothing.
 ghost use Rattle.std.specs.Prelude.{◌≡◌, ℕ, List, [], ◌∷◌, Some, None};
-ghost use Rattle.store_core.specs.Histories.{store_after};
+ghost use Rattle.store_core.specs.declared.calls.Call.TheVariants.{Cas};
+ghost use Rattle.store_core.specs.declared.replies.Reply.TheVariants.{Committed, Mismatch};
+ghost use Rattle.store_core.specs.declared.outcomes.Outcome.{Outcome};
+ghost use Rattle.store_core.specs.declared.outcomes.Outcome.TheVariants.{FailedTook, FailedLost};
+ghost use Rattle.store_core.specs.Histories.{reply, store_after};
+ghost use Rattle.state_core.specs.declared.transitions.Transition.TheVariants.{Init};
+ghost use Rattle.state_core.specs.VersionReading.{version_in};
+ghost use Rattle.history_core.specs.Readings.{rows_in};
 ghost use Rattle.history_core.specs.Discipline.{Lawful};
 ghost use Rattle.history_core.specs.Stands.{accepted_of};
-ghost use Rattle.history_core.specs.Worked.{the_shard, key, early_row, late_row, merged_part, version8};
-ghost use Rattle.history_core.specs.WorkedTrail.{worked, first_calls};
+ghost use Rattle.history_core.specs.Worked.{the_shard, key, early_row, late_row, early_part, late_part, merged_part, state0, state1, state2, state3, state4, state5, state6, state7, state8, step1, step2, step3, step4, step5, step6, step7, step8, version0, version1, version2, version3, version4, version5, version6, version7, version8};
+ghost use Rattle.history_core.specs.WorkedTrail.{did, worked, first_calls};
+ghost use Rattle.history_core.specs.WorkedFailures.{first_append, append_with, append_again, set_after_failure, too_late};
 ghost use Rattle.history_core.specs.WorkedBroken.{with_part, with_dropped, set_other_bytes, set_after_cas, first_not_init, cas_unseen, cas_for_another, cas_misapplied, merge_dropping, append_unstored, append_out_of_range, append_falling, append_too_many, append_too_heavy, delete_untaken, delete_above_floor, truncate_past_floor, truncate_before_deletes};
+
+/// Each worked version holds the state and the transition that it spells, and each worked part its rows.
+pub fn worked_bytes()
+    ensures version0_is { version_in the_shard 0 version0 ≡ Some (state0, Init) }
+    ensures version1_is { version_in the_shard 1 version1 ≡ Some (state1, step1) }
+    ensures version2_is { version_in the_shard 2 version2 ≡ Some (state2, step2) }
+    ensures version3_is { version_in the_shard 3 version3 ≡ Some (state3, step3) }
+    ensures version4_is { version_in the_shard 4 version4 ≡ Some (state4, step4) }
+    ensures version5_is { version_in the_shard 5 version5 ≡ Some (state5, step5) }
+    ensures version6_is { version_in the_shard 6 version6 ≡ Some (state6, step6) }
+    ensures version7_is { version_in the_shard 7 version7 ≡ Some (state7, step7) }
+    ensures version8_is { version_in the_shard 8 version8 ≡ Some (state8, step8) }
+    ensures early { rows_in early_part ≡ Some (early_row ∷ []) }
+    ensures late { rows_in late_part ≡ Some (late_row ∷ []) }
+    ensures merged { rows_in merged_part ≡ Some (early_row ∷ late_row ∷ []) }
+{}
 
 /// Each call of the worked history, and of each prefix, is allowed to its client.
 pub fn worked_is_lawful()
@@ -29,16 +53,37 @@ pub fn worked_collects()
     ensures merged { (store_after worked).blobs (key 1 1) ≡ Some merged_part }
 {}
 
+/// An append that fails counts where it took effect, and one that is tried again counts once.
+pub fn worked_failures()
+    ensures lawful { (outcome : Outcome) → Lawful (append_with outcome) }
+    ensures lawful_again { (outcome : Outcome) → Lawful (append_again outcome) }
+    ensures took { accepted_of the_shard [] (append_with FailedTook) ≡ early_row ∷ [] }
+    ensures lost { accepted_of the_shard [] (append_with FailedLost) ≡ [] }
+    ensures took_again { accepted_of the_shard [] (append_again FailedTook) ≡ early_row ∷ [] }
+    ensures lost_again { accepted_of the_shard [] (append_again FailedLost) ≡ early_row ∷ [] }
+    ensures took_reply { reply (store_after (append_with FailedTook)) (did 0 first_append) ≡ Mismatch }
+    ensures lost_reply { reply (store_after (append_with FailedLost)) (did 0 first_append) ≡ Committed 4 }
+{}
+
+/// A Cas that comes too late is allowed, is a mismatch, and changes nothing.
+pub fn worked_too_late()
+    ensures lawful { Lawful too_late }
+    ensures reply { reply (store_after (first_calls 9)) (did 1 (Cas the_shard (Some 2) version3)) ≡ Mismatch }
+    ensures accepted { accepted_of the_shard [] too_late ≡ early_row ∷ [] }
+{}
+
 /// Each broken history is lawful before its last call: it is a prefix of the worked history there, or one with another Set.
 pub fn broken_starts()
     ensures with_part { (part : List ℕ) → Lawful (with_part part) }
     ensures with_dropped { Lawful with_dropped }
 {}
 
-/// Sets that aren't allowed: of other bytes than those that the key has, and after the writer's own append under the key's token.
+/// Sets that aren't allowed: of other bytes than those that the key has, and after the writer's own append under the key's token,
+/// whether it was committed or failed.
 pub fn broken_sets()
     ensures other_bytes { Lawful set_other_bytes → ⊥ }
     ensures after_cas { Lawful set_after_cas → ⊥ }
+    ensures after_failure { Lawful set_after_failure → ⊥ }
 {}
 
 /// A first version isn't allowed that isn't the first state.
