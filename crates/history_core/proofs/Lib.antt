@@ -18,3 +18,4 @@ pub mod WorkedBrokenScans
 pub mod WorkedStarts
 pub mod WorkedFailed
 pub mod WorkedStands
+pub mod WorkedCollection

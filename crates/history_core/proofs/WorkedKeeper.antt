@@ -12,7 +12,7 @@ use Rattle.history_core.proofs.WorkedParts.{reads_early, reads_late, reads_merge
 use Rattle.history_core.proofs.WorkedStates.{applies2, applies6, applies8}
 use Rattle.history_core.proofs.WorkedFacts.{spends_not, joins1}
 
-merged_is : IsCons (moved (early_row ∷ late_row ∷ []) 0) (early_row ∷ late_row ∷ [])
+pub merged_is : IsCons (moved (early_row ∷ late_row ∷ []) 0) (early_row ∷ late_row ∷ [])
 unfolding IsStrictlySortedBy
 merged_is = record { rising = ((refl, tt), (tt, tt)); nonzero = ((λ e. cc), ((λ e. cc), tt)); same = λ k. refl }
 
