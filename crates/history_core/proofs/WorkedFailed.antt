@@ -25,9 +25,16 @@ pub with_lawful : (outcome : Outcome) → Lawful (append_with outcome)
 with_lawful outcome = one_more (first_calls 8) (entry_of 0 first_append outcome) (prefixes_lawful 8) (last_allowed (first_calls 8) (did 0 first_append) (prefixes_lawful 9))
 
 may_again : (outcome : Outcome) → Allows (reverse (mine (append_with outcome) 0)) first_append
-may_again outcome = record { from = state3; to = state4; step = step4; shown = (version3, step3, inr (inr (inl (refl, inr (inl (refl, refl))))), reads3); written = reads4; applies = applies4;
+may_again outcome = record {
+  from = state3;
+  to = state4;
+  step = step4;
+  shown = (version3, step3, inr (inr (inl (refl, inr (inl (refl, refl))))), reads3);
+  written = reads4;
+  applies = applies4;
   owned = inr (inr (inr (inl (refl, joins0))));
-  holds = record { updates = early_row ∷ []; hold = (early_part, early_row ∷ [], [], inr (inl (refl, refl)), reads_early, refl, refl); rising = early_rises; in_range = refl; count = refl; light = omega arith } }
+  holds = record { updates = early_row ∷ []; hold = (early_part, early_row ∷ [], [], inr (inl (refl, refl)), reads_early, refl, refl); rising = early_rises; in_range = refl; count = refl; light = omega arith };
+}
 
 pub again_lawful : (outcome : Outcome) → Lawful (append_again outcome)
 again_lawful outcome = one_more (append_with outcome) (did 0 first_append) (with_lawful outcome) (may_again outcome)

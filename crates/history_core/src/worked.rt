@@ -9,7 +9,7 @@ ghost use Rattle.state_core.specs.declared.transitions.Transition.TheVariants.{I
 ghost use Rattle.state_core.specs.VersionReading.{version_in};
 ghost use Rattle.history_core.specs.Readings.{rows_in};
 ghost use Rattle.history_core.specs.Discipline.{Lawful};
-ghost use Rattle.history_core.specs.Stands.{accepted_of};
+ghost use Rattle.history_core.specs.Stands.{StandsFor, accepted_of};
 ghost use Rattle.history_core.specs.Worked.{the_shard, key, early_row, late_row, early_part, late_part, merged_part, state0, state1, state2, state3, state4, state5, state6, state7, state8, step1, step2, step3, step4, step5, step6, step7, step8, version0, version1, version2, version3, version4, version5, version6, version7, version8};
 ghost use Rattle.history_core.specs.WorkedTrail.{did, worked, first_calls};
 ghost use Rattle.history_core.specs.WorkedFailures.{first_append, append_with, append_again, set_after_failure, too_late};
@@ -51,6 +51,12 @@ pub fn worked_collects()
     ensures early { (store_after worked).blobs (key 0 1) ≡ None }
     ensures late { (store_after worked).blobs (key 0 2) ≡ None }
     ensures merged { (store_after worked).blobs (key 1 1) ≡ Some merged_part }
+{}
+
+/// The store that the worked history leaves stands for both rows, and not for the first alone.
+pub fn worked_stands_for()
+    ensures both { StandsFor (store_after worked) the_shard (early_row ∷ late_row ∷ []) }
+    ensures no_less { StandsFor (store_after worked) the_shard (early_row ∷ []) → ⊥ }
 {}
 
 /// An append that fails counts where it took effect, and one that is tried again counts once.
