@@ -1,4 +1,5 @@
 pub mod Prefixes
+pub mod Opened
 pub mod WorkedVersions
 pub mod WorkedParts
 pub mod WorkedStates
