@@ -4,13 +4,13 @@ pub mod WorkedVersions
 pub mod WorkedParts
 pub mod WorkedStates
 pub mod WorkedFacts
+pub mod OneMore
 pub mod WorkedWriter
 pub mod WorkedKeeper
 pub mod WorkedReader
 pub mod WorkedLaw
 pub mod WorkedAccepted
 pub mod WorkedBrokenReadings
-pub mod OneMore
 pub mod WorkedParted
 pub mod WorkedBrokenSets
 pub mod WorkedBrokenAppends

@@ -10,7 +10,12 @@ use Rattle.store_core.specs.Ports.{Answered, answered, mine, mine_from}
 use Rattle.store_core.proofs.PortLaws.{mine_from-append}
 use Rattle.history_core.specs.Discipline.{Allows, OwnLawful, Lawful}
 
-turned : (h : History) (e : Entry) (c : ℕ) → reverse (mine (with_entry h e) c) ≡ reverse (mine_from (store_after h) (e ∷ []) c) ++ reverse (mine h c)
+-- a client's own entries, the newest first
+abbrev pub own_of : History → ℕ → List Answered
+own_of h c = reverse (mine h c)
+
+turned : (h : History) (e : Entry) (c : ℕ) →
+    reverse (mine (with_entry h e) c) ≡ reverse (mine_from (store_after h) (e ∷ []) c) ++ reverse (mine h c)
 turned h e c = ap reverse (mine_from-append h.start h.trail (e ∷ []) c) ∙ reverse-append (mine h c) (mine_from (store_after h) (e ∷ []) c)
 
 same : (a c : ℕ) → (a == c) ≡ true → a ≡ c
@@ -19,11 +24,13 @@ same a c h = grind (arith, nat_tests)
 itself : (c : ℕ) → (c == c) ≡ true
 itself c = grind (arith, nat_tests)
 
-grown : (b : Bool) (o : Answered) (own : List Answered) → (b ≡ true → Allows own o.entry.call) → OwnLawful own → OwnLawful (reverse (cond b (o ∷ []) []) ++ own)
+grown : (b : Bool) (o : Answered) (own : List Answered) → (b ≡ true → Allows own o.entry.call) → OwnLawful own →
+    OwnLawful (reverse (cond b (o ∷ []) []) ++ own)
 grown true o own f l = (f refl, l)
 grown false o own f l = l
 
-newest : (b : Bool) (o : Answered) (own : List Answered) → b ≡ true → OwnLawful (reverse (cond b (o ∷ []) []) ++ own) → Allows own o.entry.call
+newest : (b : Bool) (o : Answered) (own : List Answered) → b ≡ true → OwnLawful (reverse (cond b (o ∷ []) []) ++ own) →
+    Allows own o.entry.call
 newest true o own e l = l.0
 newest false o own e l = absurd (cc)
 

@@ -3,7 +3,8 @@ use Rattle.std.proofs.Common.{◌≡◌, Some, None, [], ◌∷◌, refl}
 use Rattle.state_core.specs.VersionReading.{version_in}
 use Rattle.history_core.specs.Readings.{rows_in}
 use Rattle.history_core.specs.Worked.{the_shard, step4, version1}
-use Rattle.history_core.specs.WorkedBroken.{forgetful_state, forgetful_version, one_row_to, one_row_state, short_version, few_version}
+use Rattle.history_core.specs.WorkedBroken.{forgetful_state, forgetful_version, one_row_to, one_row_state, short_version}
+use Rattle.history_core.specs.WorkedBroken.{few_version}
 use Rattle.history_core.specs.WorkedBroken.{two_rows, two_rows_state, two_rows_version, falling_part, heavy_row, heavy_part}
 use Rattle.history_core.specs.WorkedBroken.{dropping, dropping_state, dropping_version}
 use Rattle.history_core.proofs.Opened.{opened_versions, opened_parts}

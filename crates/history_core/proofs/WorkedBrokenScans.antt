@@ -1,11 +1,9 @@
 -- Deletes and Truncates of broken histories that aren't allowed.
 use Rattle.std.proofs.Common.{◌≡◌, ◌∙◌, ℕ, ◌≤◌, ◌<◌, List, [], ◌∷◌, Option, Some, inl, inr, refl, sym, ap, subst, arith}
-use Rattle.std.specs.Prelude.{reverse}
 use Rattle.store_core.specs.declared.part_keys.PartKey.{PartKey}
 use Rattle.store_core.specs.declared.versions.Version.{Version}
 use Rattle.store_core.specs.declared.calls.Call.TheVariants.{Delete, Truncate}
 use Rattle.store_core.specs.Stores.{numbered}
-use Rattle.store_core.specs.Ports.{mine}
 use Rattle.state_core.specs.declared.transitions.Transition.{Transition}
 use Rattle.state_core.specs.declared.transitions.Transition.TheVariants.{Init}
 use Rattle.state_core.specs.Lists.{Among}
@@ -13,10 +11,12 @@ use Rattle.state_core.specs.States.{ShardState, floor}
 use Rattle.state_core.specs.Steps.{Takes}
 use Rattle.state_core.specs.VersionReading.{version_in}
 use Rattle.history_core.specs.Discipline.{Allows, TakenUpTo, TakesIn, NewestIs, AllDeleted, IsDeleted, Lawful}
-use Rattle.history_core.specs.Worked.{the_shard, key, state0, state1, state2, state3, state4, state5, state6, state7, state8, step1, step2, step3, step4, step5, step6, step7, step8, version0, version1, version2, version3, version4, version5, version6, version7, version8}
+use Rattle.history_core.specs.Worked.{the_shard, key, state0, state1, state2, state3, state4, state5, state6, state7, state8}
+use Rattle.history_core.specs.Worked.{step1, step2, step3, step4, step5, step6, step7, step8, version0, version1, version2}
+use Rattle.history_core.specs.Worked.{version3, version4, version5, version6, version7, version8}
 use Rattle.history_core.specs.WorkedTrail.{did, first_calls}
 use Rattle.history_core.specs.WorkedBroken.{delete_above_floor, delete_untaken, truncate_before_deletes, truncate_past_floor}
-use Rattle.history_core.proofs.OneMore.{last_allowed}
+use Rattle.history_core.proofs.OneMore.{own_of, last_allowed}
 use Rattle.history_core.proofs.WorkedParted.{one_value}
 use Rattle.history_core.proofs.WorkedFacts.{takes_of, takes_late, early_not_late}
 use Rattle.history_core.proofs.WorkedVersions.{reads0, reads1, reads2, reads3, reads4, reads5, reads6, reads7, reads8}
@@ -97,7 +97,10 @@ taken_in_nine top k h = elim h [
   ]
 ]
 
-last_is : (o : Option (ShardState × Transition)) (s last : ShardState) (x y : Transition) → o ≡ Some (last, y) → o ≡ Some (s, x) → s ≡ last
+last_is : (o : Option (ShardState × Transition)) (s last : ShardState) (x y : Transition) → o ≡ Some (last, y) → o ≡ Some (
+  s,
+  x,
+) → s ≡ last
 last_is o s last x y e f = ap (λ (p : ShardState × Transition). p.0) (one_value o (s, x) (last, y) f e)
 
 -- the floors of the states that those Scans end with
@@ -114,7 +117,10 @@ above : (s : ShardState) (n m : ℕ) → floor s ≡ n → n < m → m ≤ floor
 above s n m e lt h = omega arith
 
 merged_untaken : Takes step6 (key 1 1) → ⊥
-merged_untaken h = elim h [ inl e ↦ zero_not_one (ap (λ (k : PartKey). k.member) e) | inr f ↦ elim f [ inl e ↦ zero_not_one (ap (λ (k : PartKey). k.member) e) | inr g ↦ g ] ]
+merged_untaken h = elim h [
+  | inl e ↦ zero_not_one (ap (λ (k : PartKey). k.member) e)
+  | inr f ↦ elim f [ inl e ↦ zero_not_one (ap (λ (k : PartKey). k.member) e) | inr g ↦ g ]
+]
   where
     zero_not_one : ◌≡◌ {A = ℕ} 0 1 → ⊥
     zero_not_one e = omega arith
@@ -148,17 +154,36 @@ truncates_to_floor l = elim (last_allowed (first_calls 23) (did 2 (Truncate the_
         | inl a ↦ a
         | inr f ↦ elim f [
           | inl a ↦ above a.2.0 3 9 (floor_of_seven a.2.0 a.2.1) (omega arith) a.2.2
-          | inr g ↦ elim g [ inl a ↦ a | inr k ↦ elim k [ inl a ↦ above a.2.0 2 9 (floor_of_three a.2.0 a.2.1) (omega arith) a.2.2 | inr n ↦ n ] ]
+          | inr g ↦ elim g [
+            | inl a ↦ a
+            | inr k ↦ elim k [
+              | inl a ↦
+                  above a.2.0 2 9 (floor_of_three a.2.0 a.2.1) (omega arith) a.2.2
+              | inr n ↦ n
+            ]
+          ]
         ]
       ]
     ]
   ]
 ]
 
-late_undeleted : AllDeleted (reverse (mine (first_calls 22) 2)) the_shard 8 nine → ⊥
+late_undeleted : AllDeleted (own_of (first_calls 22) 2) the_shard 8 nine → ⊥
 late_undeleted h = elim (h.1.1.1.1.1.1.0 (omega arith) (key 0 2) takes_late) [
   | inl e ↦ early_not_late e
-  | inr b ↦ elim b [ inl a ↦ a | inr c ↦ elim c [ inl a ↦ a | inr d ↦ elim d [ inl a ↦ a | inr f ↦ elim f [ inl a ↦ a | inr g ↦ elim g [ inl a ↦ a | inr k ↦ k ] ] ] ] ]
+  | inr b ↦ elim b [
+    | inl a ↦ a
+    | inr c ↦ elim c [
+      | inl a ↦ a
+      | inr d ↦ elim d [
+        | inl a ↦ a
+        | inr f ↦ elim f [
+          | inl a ↦ a
+          | inr g ↦ elim g [ inl a ↦ a | inr k ↦ k ]
+        ]
+      ]
+    ]
+  ]
 ]
 
 pub truncates_after_deletes : Lawful truncate_before_deletes → ⊥
@@ -170,7 +195,14 @@ truncates_after_deletes l = elim (last_allowed (first_calls 22) (did 2 (Truncate
       | inl a ↦ a
       | inr f ↦ elim f [
         | inl a ↦ above a.2.0 3 8 (floor_of_seven a.2.0 a.2.1) (omega arith) a.2.2
-        | inr g ↦ elim g [ inl a ↦ a | inr k ↦ elim k [ inl a ↦ above a.2.0 2 8 (floor_of_three a.2.0 a.2.1) (omega arith) a.2.2 | inr n ↦ n ] ]
+        | inr g ↦ elim g [
+          | inl a ↦ a
+          | inr k ↦ elim k [
+            | inl a ↦
+                above a.2.0 2 8 (floor_of_three a.2.0 a.2.1) (omega arith) a.2.2
+            | inr n ↦ n
+          ]
+        ]
       ]
     ]
   ]

@@ -30,7 +30,8 @@ one_not_six e = omega arith
 
 early_part_not_late : early_part ≡ late_part → ⊥
 early_part_not_late e =
-    let f : early_row ∷ [] ≡ late_row ∷ [] = one_value (rows_in early_part) (early_row ∷ []) (late_row ∷ []) reads_early (ap rows_in e ∙ reads_late) in
+    let f : early_row ∷ [] ≡ late_row ∷ [] =
+    one_value (rows_in early_part) (early_row ∷ []) (late_row ∷ []) reads_early (ap rows_in e ∙ reads_late) in
     let g : early_row ≡ late_row = cc in
     one_not_six (ap (λ (u : Update). u.time) g)
 

@@ -9,10 +9,12 @@ use Rattle.history_core.specs.Discipline.{JoinsAs, SpendsIn, TakesIn}
 use Rattle.history_core.specs.Worked.{the_shard, key, version1, version2, version3, version6}
 use Rattle.history_core.proofs.WorkedVersions.{reads1, reads2, reads3, reads6}
 
-pub spends_not : (o : Option (ShardState × Transition)) (s : ShardState) (x : Transition) (m t : ℕ) → o ≡ Some (s, x) → (Spends x m t → ⊥) → SpendsIn o m t → ⊥
+pub spends_not : (o : Option (ShardState × Transition)) (s : ShardState) (x : Transition) (m t : ℕ) → o ≡ Some (s, x) →
+    (Spends x m t → ⊥) → SpendsIn o m t → ⊥
 spends_not o s x m t e f h = f (subst (λ (p : Option (ShardState × Transition)). SpendsIn p m t) e h)
 
-pub takes_of : (o : Option (ShardState × Transition)) (s : ShardState) (x : Transition) (k : PartKey) → o ≡ Some (s, x) → TakesIn o k → Takes x k
+pub takes_of : (o : Option (ShardState × Transition)) (s : ShardState) (x : Transition) (k : PartKey) → o ≡ Some (s, x) →
+    TakesIn o k → Takes x k
 takes_of o s x k e h = subst (λ (p : Option (ShardState × Transition)). TakesIn p k) e h
 
 pub joins0 : JoinsAs (version_in the_shard 1 version1) 0

@@ -1,18 +1,17 @@
 -- What the worked history comes to where its first append fails, or a Cas comes too late.
 use Rattle.std.proofs.Common.{◌≡◌, ℕ, Some, [], ◌∷◌, inl, inr, refl, arith}
-use Rattle.std.specs.Prelude.{reverse}
 use Rattle.store_core.specs.declared.calls.Call.TheVariants.{Cas, Set}
 use Rattle.store_core.specs.declared.replies.Reply.TheVariants.{Committed, Mismatch, Failed}
 use Rattle.store_core.specs.declared.outcomes.Outcome.{Outcome}
 use Rattle.store_core.specs.declared.outcomes.Outcome.TheVariants.{Took, FailedTook, FailedLost}
 use Rattle.store_core.specs.Histories.{entry_of, reply, store_after}
-use Rattle.store_core.specs.Ports.{mine}
 use Rattle.history_core.specs.Discipline.{Allows, Lawful}
 use Rattle.history_core.specs.Stands.{accepted_of}
-use Rattle.history_core.specs.Worked.{the_shard, key, early_row, early_part, state2, state3, state4, step2, step3, step4, version2, version3}
+use Rattle.history_core.specs.Worked.{the_shard, key, early_row, early_part, state2, state3, state4, step2, step3, step4}
+use Rattle.history_core.specs.Worked.{version2, version3}
 use Rattle.history_core.specs.WorkedTrail.{did, first_calls}
 use Rattle.history_core.specs.WorkedFailures.{first_append, append_with, append_again, set_after_failure, too_late}
-use Rattle.history_core.proofs.OneMore.{one_more, last_allowed}
+use Rattle.history_core.proofs.OneMore.{own_of, one_more, last_allowed}
 use Rattle.history_core.proofs.WorkedVersions.{reads1, reads2, reads3, reads4}
 use Rattle.history_core.proofs.WorkedParts.{reads_early}
 use Rattle.history_core.proofs.WorkedStates.{applies3, applies4}
@@ -24,7 +23,7 @@ use Rattle.history_core.proofs.WorkedBrokenSets.{spent}
 pub with_lawful : (outcome : Outcome) → Lawful (append_with outcome)
 with_lawful outcome = one_more (first_calls 8) (entry_of 0 first_append outcome) (prefixes_lawful 8) (last_allowed (first_calls 8) (did 0 first_append) (prefixes_lawful 9))
 
-may_again : (outcome : Outcome) → Allows (reverse (mine (append_with outcome) 0)) first_append
+may_again : (outcome : Outcome) → Allows (own_of (append_with outcome) 0) first_append
 may_again outcome = record {
   from = state3;
   to = state4;
@@ -33,7 +32,22 @@ may_again outcome = record {
   written = reads4;
   applies = applies4;
   owned = inr (inr (inr (inl (refl, joins0))));
-  holds = record { updates = early_row ∷ []; hold = (early_part, early_row ∷ [], [], inr (inl (refl, refl)), reads_early, refl, refl); rising = early_rises; in_range = refl; count = refl; light = omega arith };
+  holds = record {
+    updates = early_row ∷ [];
+    hold = (
+      early_part,
+      early_row ∷ [],
+      [],
+      inr (inl (refl, refl)),
+      reads_early,
+      refl,
+      refl,
+    );
+    rising = early_rises;
+    in_range = refl;
+    count = refl;
+    light = omega arith;
+  };
 }
 
 pub again_lawful : (outcome : Outcome) → Lawful (append_again outcome)
@@ -62,7 +76,16 @@ sets_before_failure l = (last_allowed (append_with FailedLost) (did 0 (Set (key 
 
 pub late_lawful : Lawful too_late
 late_lawful = one_more (first_calls 9) (did 1 (Cas the_shard (Some 2) version3)) (prefixes_lawful 9)
-    (record { from = state2; to = state3; step = step3; shown = (version2, step2, inl (refl, refl, refl), reads2); written = reads3; applies = applies3; owned = tt; holds = tt })
+    (record {
+      from = state2;
+      to = state3;
+      step = step3;
+      shown = (version2, step2, inl (refl, refl, refl), reads2);
+      written = reads3;
+      applies = applies3;
+      owned = tt;
+      holds = tt;
+    })
 
 pub late_reply : reply (store_after (first_calls 9)) (did 1 (Cas the_shard (Some 2) version3)) ≡ Mismatch
 late_reply = refl

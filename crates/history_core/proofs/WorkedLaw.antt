@@ -20,7 +20,8 @@ others [] c h = tt
 others (e ∷ es) c h = (λ is. omega (arith, h.0, is), others es c h.1)
 
 -- where clients 0, 1 and 2 alone made calls, each allowed by those before it, the history is lawful
-pub three_clients : (h : History) → OwnLawful (reverse (mine h 0)) → OwnLawful (reverse (mine h 1)) → OwnLawful (reverse (mine h 2)) → AllByRecursion (λ e. e.client < 3) h.trail → Lawful h
+pub three_clients : (h : History) → OwnLawful (reverse (mine h 0)) → OwnLawful (reverse (mine h 1)) →
+    OwnLawful (reverse (mine h 2)) → AllByRecursion (λ e. e.client < 3) h.trail → Lawful h
 three_clients h a b d all zero = a
 three_clients h a b d all (suc zero) = b
 three_clients h a b d all (suc (suc zero)) = d
@@ -34,4 +35,7 @@ pub worked_lawful : Lawful worked
 worked_lawful = three_clients worked writer_lawful keeper_lawful reader_lawful (search arith)
 
 pub prefixes_lawful : (n : ℕ) → Lawful (first_calls n)
-prefixes_lawful n = prefix_lawful (first_calls n) (drop n trail) (subst (λ (es : List Entry). Lawful (record { start = empty_store; trail = es })) (sym (take-append-drop n trail)) worked_lawful)
+prefixes_lawful n = prefix_lawful (first_calls n) (drop n trail) (subst (λ (es : List Entry). Lawful (record {
+  start = empty_store;
+  trail = es;
+})) (sym (take-append-drop n trail)) worked_lawful)

@@ -24,7 +24,8 @@ one_part P k part rows us only reads (b, first, rest, p, r, e, nil) =
 
 -- what two parts hold
 pub two_parts : (P : PartKey → List ℕ → Type 0) (j k : PartKey) (left right : List ℕ) (rows others us : List Update) →
-    ((b : List ℕ) → P j b → b ≡ left) → rows_in left ≡ Some rows → ((b : List ℕ) → P k b → b ≡ right) → rows_in right ≡ Some others → Hold P (j ∷ k ∷ []) us → us ≡ rows ++ others
+    ((b : List ℕ) → P j b → b ≡ left) → rows_in left ≡ Some rows → ((b : List ℕ) → P k b → b ≡ right) →
+    rows_in right ≡ Some others → Hold P (j ∷ k ∷ []) us → us ≡ rows ++ others
 two_parts P j k left right rows others us only reads only2 reads2 (b, first, rest, p, r, e, more) =
     let f : first ≡ rows = one_value (rows_in b) first rows r (ap rows_in (only b p) ∙ reads) in
     let g : rest ≡ others = one_part P k right others rest only2 reads2 more in

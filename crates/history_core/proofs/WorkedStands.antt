@@ -14,7 +14,8 @@ use Rattle.history_core.proofs.WorkedAccepted.{accepted_all}
 starts : StandsFor empty_store the_shard []
 starts = inl (record { no_version = refl; no_update = refl; no_key = λ k e. refl })
 
-pub prefixes_stand : LawfulStandsFor → (n : ℕ) → StandsFor (store_after (first_calls n)) the_shard (accepted_of the_shard [] (first_calls n))
+pub prefixes_stand : LawfulStandsFor → (n : ℕ) →
+    StandsFor (store_after (first_calls n)) the_shard (accepted_of the_shard [] (first_calls n))
 prefixes_stand law n = law the_shard [] (first_calls n) starts (prefixes_lawful n)
 
 pub worked_stands : LawfulStandsFor → StandsFor (store_after worked) the_shard (early_row ∷ late_row ∷ [])

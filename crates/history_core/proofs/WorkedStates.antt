@@ -4,7 +4,8 @@ use Rattle.std.specs.Prelude.{sum_by}
 use Rattle.store_core.specs.declared.part_keys.PartKey.{PartKey}
 use Rattle.state_core.specs.States.{IsState}
 use Rattle.state_core.specs.Steps.{Applies}
-use Rattle.history_core.specs.Worked.{key, state0, state1, state2, state3, state4, state5, state6, state7, state8, step1, step2, step3, step4, step5, step6, step7, step8}
+use Rattle.history_core.specs.Worked.{key, state0, state1, state2, state3, state4, state5, state6, state7, state8, step1, step2}
+use Rattle.history_core.specs.Worked.{step3, step4, step5, step6, step7, step8}
 
 rules1 : IsState state1
 rules1 = record {
@@ -78,7 +79,23 @@ rules4 = record {
   rows = omega arith;
   light = omega arith;
   parts = ((omega arith, omega arith), tt);
-  keys = (record { of_shard = refl; below = omega arith; spent = ((λ e. omega arith), ((λ e. omega arith), ((λ e. omega arith), tt))) }, tt);
+  keys = (
+    record {
+      of_shard = refl;
+      below = omega arith;
+      spent = (
+        (λ e. omega arith),
+        (
+          (λ e. omega arith),
+          (
+            (λ e. omega arith),
+            tt,
+          ),
+        ),
+      );
+    },
+    tt,
+  );
   distinct = ((λ h. h), tt);
 }
 
@@ -102,7 +119,23 @@ rules5 = record {
   parts = ((omega arith, omega arith), ((omega arith, omega arith), tt));
   keys = (
     record { of_shard = refl; below = omega arith; spent = ((λ e. omega arith), ((λ e. omega arith), ((λ e. omega arith), tt))) },
-    (record { of_shard = refl; below = omega arith; spent = ((λ e. omega arith), ((λ e. omega arith), ((λ e. omega arith), tt))) }, tt),
+    (
+      record {
+        of_shard = refl;
+        below = omega arith;
+        spent = (
+          (λ e. omega arith),
+          (
+            (λ e. omega arith),
+            (
+              (λ e. omega arith),
+              tt,
+            ),
+          ),
+        );
+      },
+      tt,
+    ),
   );
   distinct = ((λ h. elim h [ inl e ↦ two_keys e | inr f ↦ f ]), ((λ h. h), tt));
 }
@@ -122,7 +155,23 @@ rules6 = record {
   rows = omega arith;
   light = omega arith;
   parts = ((omega arith, omega arith), tt);
-  keys = (record { of_shard = refl; below = omega arith; spent = ((λ e. omega arith), ((λ e. omega arith), ((λ e. omega arith), tt))) }, tt);
+  keys = (
+    record {
+      of_shard = refl;
+      below = omega arith;
+      spent = (
+        (λ e. omega arith),
+        (
+          (λ e. omega arith),
+          (
+            (λ e. omega arith),
+            tt,
+          ),
+        ),
+      );
+    },
+    tt,
+  );
   distinct = ((λ h. h), tt);
 }
 
@@ -177,7 +226,15 @@ pub applies4 : Applies state3 step4 state4
 applies4 = record {
   room = omega arith;
   makes = record {
-    shape = record { forward = refl; few = omega arith; dense = omega arith; light = omega arith; keys = (refl, tt); count = (omega arith, omega arith) };
+    shape = record {
+      forward = refl;
+      few = omega arith;
+      dense = omega arith;
+      light = omega arith;
+      keys = (refl, tt);
+      count =
+          (omega arith, omega arith);
+    };
     stands = inl (refl, (refl, omega arith));
     fits = refl;
     light = omega arith;
@@ -190,7 +247,15 @@ pub applies5 : Applies state4 step5 state5
 applies5 = record {
   room = omega arith;
   makes = record {
-    shape = record { forward = refl; few = omega arith; dense = omega arith; light = omega arith; keys = (refl, tt); count = (omega arith, omega arith) };
+    shape = record {
+      forward = refl;
+      few = omega arith;
+      dense = omega arith;
+      light = omega arith;
+      keys = (refl, tt);
+      count =
+          (omega arith, omega arith);
+    };
     stands = inl (refl, (refl, omega arith));
     fits = refl;
     light = omega arith;
@@ -203,7 +268,18 @@ pub applies6 : Applies state5 step6 state6
 applies6 = record {
   room = omega arith;
   makes = record {
-    shape = record { joins = refl; lower = refl; upper = refl; from_left = omega arith; from_right = omega arith; since = omega arith; rows = omega arith; keys = (refl, tt); count = (omega arith, omega arith) };
+    shape = record {
+      joins = refl;
+      lower = refl;
+      upper = refl;
+      from_left = omega arith;
+      from_right = omega arith;
+      since =
+          omega arith;
+      rows = omega arith;
+      keys = (refl, tt);
+      count = (omega arith, omega arith);
+    };
     stands = inr (inl (refl, (refl, omega arith)));
     before = [];
     behind = [];

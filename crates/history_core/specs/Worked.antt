@@ -1,4 +1,5 @@
--- A worked history over one shard: a writer, a keeper and a reader join; two appends; a merge; the reader leaves; the keeper renews its hold; the merged parts are collected.
+-- A worked history over one shard: a writer, a keeper and a reader join; two appends; a merge; the reader leaves; the keeper
+-- renews its hold; the merged parts are collected.
 use Rattle.std.specs.Prelude.{ℕ, ◌+◌, pos, List, [], ◌∷◌, Option, Some, None, take, drop}
 use Rattle.update_core.specs.declared.updates.Update.{Update}
 use Rattle.store_core.specs.declared.shards.ShardId.{ShardId}
@@ -78,10 +79,24 @@ abbrev pub state3 : ShardState
 state3 = record state0 { number = 3; next_member = 3; members = writer 0 ∷ keeper 2 0 0 ∷ reader ∷ [] }
 
 abbrev pub state4 : ShardState
-state4 = record state3 { number = 4; members = writer 1 ∷ keeper 2 0 0 ∷ reader ∷ []; upper = Some 5; weight = 1; batches = early_batch ∷ [] }
+state4 = record state3 {
+  number = 4;
+  members = writer 1 ∷ keeper 2 0 0 ∷ reader ∷ [];
+  upper = Some 5;
+  weight = 1;
+  batches =
+      early_batch ∷ [];
+}
 
 abbrev pub state5 : ShardState
-state5 = record state3 { number = 5; members = writer 2 ∷ keeper 2 0 0 ∷ reader ∷ []; upper = Some 10; weight = 2; batches = early_batch ∷ late_batch ∷ [] }
+state5 = record state3 {
+  number = 5;
+  members = writer 2 ∷ keeper 2 0 0 ∷ reader ∷ [];
+  upper = Some 10;
+  weight = 2;
+  batches =
+      early_batch ∷ late_batch ∷ [];
+}
 
 abbrev pub state6 : ShardState
 state6 = record state5 { number = 6; members = writer 2 ∷ keeper 6 0 1 ∷ reader ∷ []; batches = merged_batch ∷ [] }

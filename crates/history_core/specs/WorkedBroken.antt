@@ -11,7 +11,9 @@ use Rattle.state_core.specs.declared.transitions.Transition.{Transition}
 use Rattle.state_core.specs.declared.transitions.Transition.TheVariants.{Append, Merge}
 use Rattle.state_core.specs.States.{ShardState}
 use Rattle.state_core.specs.Versions.{version_spelling}
-use Rattle.history_core.specs.Worked.{the_shard, key, writer, keeper, reader, batch, early_batch, late_batch, early_row, late_row, early_part, late_part, merged_part, state3, state4, state5, step4, version1, version2, version4, version7}
+use Rattle.history_core.specs.Worked.{the_shard, key, writer, keeper, reader, batch, early_batch, late_batch, early_row}
+use Rattle.history_core.specs.Worked.{late_row, early_part, late_part, merged_part, state3, state4, state5, step4, version1}
+use Rattle.history_core.specs.Worked.{version2, version4, version7}
 use Rattle.history_core.specs.WorkedTrail.{did, first_calls, first_calls_and}
 
 -- ---- calls that aren't allowed after so many calls of the worked history

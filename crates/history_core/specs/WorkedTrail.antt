@@ -6,7 +6,8 @@ use Rattle.store_core.specs.declared.outcomes.Outcome.TheVariants.{Took}
 use Rattle.store_core.specs.declared.entries.Entry.{Entry}
 use Rattle.store_core.specs.Stores.{empty_store}
 use Rattle.store_core.specs.Histories.{History, entry_of, with_entry}
-use Rattle.history_core.specs.Worked.{the_shard, key, early_part, late_part, merged_part, version0, version1, version2, version3, version4, version5, version6, version7, version8}
+use Rattle.history_core.specs.Worked.{the_shard, key, early_part, late_part, merged_part, version0, version1, version2}
+use Rattle.history_core.specs.Worked.{version3, version4, version5, version6, version7, version8}
 
 -- a client's call that took effect and was answered
 abbrev pub did : ℕ → Call → Entry

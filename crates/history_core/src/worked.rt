@@ -10,10 +10,17 @@ ghost use Rattle.state_core.specs.VersionReading.{version_in};
 ghost use Rattle.history_core.specs.Readings.{rows_in};
 ghost use Rattle.history_core.specs.Discipline.{Lawful};
 ghost use Rattle.history_core.specs.Stands.{StandsFor, accepted_of};
-ghost use Rattle.history_core.specs.Worked.{the_shard, key, early_row, late_row, early_part, late_part, merged_part, state0, state1, state2, state3, state4, state5, state6, state7, state8, step1, step2, step3, step4, step5, step6, step7, step8, version0, version1, version2, version3, version4, version5, version6, version7, version8};
+ghost use Rattle.history_core.specs.Worked.{the_shard, key, early_row, late_row, early_part, late_part, merged_part, state0};
+ghost use Rattle.history_core.specs.Worked.{state1, state2, state3, state4, state5, state6, state7, state8, step1, step2};
+ghost use Rattle.history_core.specs.Worked.{step3, step4, step5, step6, step7, step8, version0, version1, version2, version3};
+ghost use Rattle.history_core.specs.Worked.{version4, version5, version6, version7, version8};
 ghost use Rattle.history_core.specs.WorkedTrail.{did, worked, first_calls};
 ghost use Rattle.history_core.specs.WorkedFailures.{first_append, append_with, append_again, set_after_failure, too_late};
-ghost use Rattle.history_core.specs.WorkedBroken.{with_part, with_dropped, set_other_bytes, set_after_cas, first_not_init, cas_unseen, cas_for_another, cas_misapplied, merge_dropping, append_unstored, append_out_of_range, append_falling, append_too_many, append_too_heavy, delete_untaken, delete_above_floor, truncate_past_floor, truncate_before_deletes};
+ghost use Rattle.history_core.specs.WorkedBroken.{with_part, with_dropped, set_other_bytes, set_after_cas, first_not_init};
+ghost use Rattle.history_core.specs.WorkedBroken.{cas_unseen, cas_for_another, cas_misapplied, merge_dropping, append_unstored};
+ghost use Rattle.history_core.specs.WorkedBroken.{append_out_of_range, append_falling, append_too_many, append_too_heavy};
+ghost use Rattle.history_core.specs.WorkedBroken.{delete_untaken, delete_above_floor, truncate_past_floor};
+ghost use Rattle.history_core.specs.WorkedBroken.{truncate_before_deletes};
 
 /// Each worked version holds the state and the transition that it spells, and each worked part its rows.
 pub fn worked_bytes()
@@ -97,7 +104,8 @@ pub fn broken_first_version()
     ensures { Lawful first_not_init → ⊥ }
 {}
 
-/// Commits that aren't allowed: at a version never seen, for a member of somebody else, of a state that the transition doesn't make, and of a merge that loses a row.
+/// Commits that aren't allowed: at a version never seen, for a member of somebody else, of a state that the transition doesn't
+/// make, and of a merge that loses a row.
 pub fn broken_commits()
     ensures unseen { Lawful cas_unseen → ⊥ }
     ensures another { Lawful cas_for_another → ⊥ }
@@ -105,7 +113,8 @@ pub fn broken_commits()
     ensures dropping { Lawful merge_dropping → ⊥ }
 {}
 
-/// Appends that aren't allowed: of a part never stored, of rows out of the range, of bytes that are no part since their rows fall, of more rows than the
+/// Appends that aren't allowed: of a part never stored, of rows out of the range, of bytes that are no part since their rows
+/// fall, of more rows than the
 /// append says, and of more weight.
 pub fn broken_appends()
     ensures unstored { Lawful append_unstored → ⊥ }
@@ -115,7 +124,8 @@ pub fn broken_appends()
     ensures too_heavy { Lawful append_too_heavy → ⊥ }
 {}
 
-/// Deletes and Truncates that aren't allowed: of a key that no version took, of a key taken above the floor, past the floor, and before the Deletes.
+/// Deletes and Truncates that aren't allowed: of a key that no version took, of a key taken above the floor, past the floor,
+/// and before the Deletes.
 pub fn broken_collections()
     ensures untaken { Lawful delete_untaken → ⊥ }
     ensures above_floor { Lawful delete_above_floor → ⊥ }
