@@ -20,3 +20,4 @@ pub mod WorkedStarts
 pub mod WorkedFailed
 pub mod WorkedStands
 pub mod WorkedCollection
+pub mod WorkedCompaction

@@ -99,7 +99,7 @@ rules4 = record {
   distinct = ((λ h. h), tt);
 }
 
-two_keys : key 0 1 ≡ key 0 2 → ⊥
+pub two_keys : key 0 1 ≡ key 0 2 → ⊥
 two_keys e = let t : ◌≡◌ {A = ℕ} 1 2 = ap (λ (k : PartKey). k.token) e in omega arith
 
 rules5 : IsState state5

@@ -7,3 +7,4 @@ pub mod Worked
 pub mod WorkedTrail
 pub mod WorkedBroken
 pub mod WorkedFailures
+pub mod WorkedCompacted

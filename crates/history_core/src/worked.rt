@@ -15,6 +15,7 @@ ghost use Rattle.history_core.specs.Worked.{state1, state2, state3, state4, stat
 ghost use Rattle.history_core.specs.Worked.{step3, step4, step5, step6, step7, step8, version0, version1, version2, version3};
 ghost use Rattle.history_core.specs.Worked.{version4, version5, version6, version7, version8};
 ghost use Rattle.history_core.specs.WorkedTrail.{did, worked, first_calls};
+ghost use Rattle.history_core.specs.WorkedCompacted.{undone_row, compacted};
 ghost use Rattle.history_core.specs.WorkedFailures.{first_append, append_with, append_again, set_after_failure, too_late};
 ghost use Rattle.history_core.specs.WorkedBroken.{with_part, with_dropped, set_other_bytes, set_after_cas, first_not_init};
 ghost use Rattle.history_core.specs.WorkedBroken.{cas_unseen, cas_for_another, cas_misapplied, merge_dropping, append_unstored};
@@ -83,6 +84,12 @@ pub fn worked_too_late()
     ensures lawful { Lawful too_late }
     ensures reply { reply (store_after (first_calls 9)) (did 1 (Cas the_shard (Some 2) version3)) ≡ Mismatch }
     ensures accepted { accepted_of the_shard [] too_late ≡ early_row ∷ [] }
+{}
+
+/// A merge that moves both rows to a later since comes to nothing where one undoes the other, and both stay accepted.
+pub fn worked_compaction()
+    ensures lawful { Lawful compacted }
+    ensures accepted { accepted_of the_shard [] compacted ≡ early_row ∷ undone_row ∷ [] }
 {}
 
 /// Each broken history is lawful before its last call: it is a prefix of the worked history there, or one with another Set.
