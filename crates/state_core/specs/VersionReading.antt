@@ -53,7 +53,7 @@ wide_at w total bytes =
     if nat_lt (length bytes) (byte_len w) then Err (faults.Short (place total bytes)) else Ok (from_be_bytes w (take (byte_len w) bytes), drop (byte_len w) bytes)
 
 -- a number in eight bytes
-abbrev pub number_at : ℕ → List ℕ → Result (ℕ × List ℕ) VersionFault
+unfoldable pub number_at : ℕ → List ℕ → Result (ℕ × List ℕ) VersionFault
 number_at total bytes = wide_at w64 total bytes
 
 -- a number that isn't above a limit

@@ -11,10 +11,10 @@ use Rattle.state_core.specs.declared.members.Member.{Member}
 use Rattle.state_core.specs.declared.transitions.Transition.{Transition}
 use Rattle.state_core.specs.declared.transitions.Transition.TheVariants.{Init, Join, Leave, Renew, Advance, Expire, Append, Merge}
 use Rattle.state_core.specs.States.{ShardState, IsState}
-use Rattle.state_core.specs.Steps.{init, JoinShape, AppendShape, MergeShape, acts_for}
+use Rattle.state_core.specs.Steps.{init, JoinShape, AppendShape, MergeShape, acts_for, taken_by}
 
 -- a number in eight bytes, the highest first
-abbrev pub number_bytes : ℕ → List ℕ
+unfoldable pub number_bytes : ℕ → List ℕ
 number_bytes n = to_be_bytes w64 n
 
 -- 0 and a time, or 1 alone
@@ -91,25 +91,29 @@ pub record MemberFits (m : Member) : Type 0 where
   pub lease : NumberFits m.lease
   pub token : NumberFits m.token
 
--- the key is of the shard, and its numbers fit in eight bytes each
-pub record KeyIsOf (shard : ShardId) (k : PartKey) : Type 0 where
-  pub of_shard : k.shard ≡ shard
+-- the numbers of a key fit in eight bytes each
+pub record PartKeyFits (k : PartKey) : Type 0 where
   pub member : NumberFits k.member
   pub token : NumberFits k.token
   pub index : NumberFits k.index
 
--- the keys are of the shard and fit, and so does how many they are
-pub record KeysAreOf (shard : ShardId) (ks : List PartKey) : Type 0 where
+-- the keys fit, and so does how many they are
+pub record PartKeysFit (ks : List PartKey) : Type 0 where
   pub count : NumberFits (length ks)
-  pub each : AllByRecursion (KeyIsOf shard) ks
+  pub each : AllByRecursion PartKeyFits ks
 
--- the batch's keys are of the shard, and its numbers fit in eight bytes each
-pub record BatchIsOf (shard : ShardId) (b : Batch) : Type 0 where
+-- the numbers of a batch fit, and so do its keys
+pub record BatchFits (b : Batch) : Type 0 where
   pub lower : NumberFits b.desc.lower
   pub upper : FrontierFits b.desc.upper
   pub since : NumberFits b.desc.since
   pub rows : NumberFits b.rows
-  pub parts : KeysAreOf shard b.parts
+  pub parts : PartKeysFit b.parts
+
+-- the batches fit, and so does how many they are
+pub record BatchesFit (bs : List Batch) : Type 0 where
+  pub count : NumberFits (length bs)
+  pub each : AllByRecursion BatchFits bs
 
 -- the numbers of a state that are in the bytes fit there
 pub record StateFits (s : ShardState) : Type 0 where
@@ -117,37 +121,36 @@ pub record StateFits (s : ShardState) : Type 0 where
   pub since : NumberFits s.since
   pub upper : FrontierFits s.upper
   pub members : AllByRecursion MemberFits s.members
-  pub count : NumberFits (length s.batches)
-  pub batches : AllByRecursion (BatchIsOf s.shard) s.batches
+  pub batches : BatchesFit s.batches
 
--- an append's keys are of the shard, and its numbers fit
-pub record AppendIsOf (shard : ShardId) (member token expected : ℕ) (new : Option ℕ) (parts : List PartKey) (rows weight : ℕ) : Type 0 where
+-- the numbers of an append fit, and so do its keys
+pub record AppendFits (member token expected : ℕ) (new : Option ℕ) (parts : List PartKey) (rows weight : ℕ) : Type 0 where
   pub member_fits : NumberFits member
   pub token_fits : NumberFits token
   pub expected_fits : NumberFits expected
   pub new_fits : FrontierFits new
   pub rows_fit : NumberFits rows
   pub weight_fits : NumberFits weight
-  pub parts_are : KeysAreOf shard parts
+  pub parts_fit : PartKeysFit parts
 
--- a merge's keys are of the shard, and its numbers fit
-pub record MergeIsOf (shard : ShardId) (member token : ℕ) (left right merged : Batch) : Type 0 where
+-- the numbers of a merge fit, and so do its batches
+pub record MergeFits (member token : ℕ) (left right merged : Batch) : Type 0 where
   pub member_fits : NumberFits member
   pub token_fits : NumberFits token
-  pub left_is : BatchIsOf shard left
-  pub right_is : BatchIsOf shard right
-  pub merged_is : BatchIsOf shard merged
+  pub left_fits : BatchFits left
+  pub right_fits : BatchFits right
+  pub merged_fits : BatchFits merged
 
--- the transition's keys are of the shard, and its numbers fit
-abbrev pub StepIsOf : ShardId → Transition → Type 0
-StepIsOf shard Init = ⊤
-StepIsOf shard (Join kind now lease) = NumberFits now × NumberFits lease
-StepIsOf shard (Leave member) = NumberFits member
-StepIsOf shard (Renew member now) = NumberFits member × NumberFits now
-StepIsOf shard (Advance member to) = NumberFits member × NumberFits to
-StepIsOf shard (Expire now) = NumberFits now
-StepIsOf shard (Append member token expected new parts rows weight) = AppendIsOf shard member token expected new parts rows weight
-StepIsOf shard (Merge member token left right merged) = MergeIsOf shard member token left right merged
+-- the numbers of a transition fit
+abbrev pub StepFits : Transition → Type 0
+StepFits Init = ⊤
+StepFits (Join kind now lease) = NumberFits now × NumberFits lease
+StepFits (Leave member) = NumberFits member
+StepFits (Renew member now) = NumberFits member × NumberFits now
+StepFits (Advance member to) = NumberFits member × NumberFits to
+StepFits (Expire now) = NumberFits now
+StepFits (Append member token expected new parts rows weight) = AppendFits member token expected new parts rows weight
+StepFits (Merge member token left right merged) = MergeFits member token left right merged
 
 -- the state before a merge, as far as its shape rules look at it, where it doesn't stand in their way
 abbrev pub before_merge : ShardId → Batch → ShardState
@@ -169,9 +172,11 @@ IsBelow (Some member) next = member < next
 pub record IsVersion (s : ShardState) (x : Transition) : Type 0 where
   pub state : IsState s
   pub state_fits : StateFits s
-  pub step_fits : StepIsOf s.shard x
+  pub step_fits : StepFits x
   pub shape : IsShapedAlone s.shard x
   pub known : IsBelow (acts_for x) s.next_member
+  -- the keys that it takes are of the shard, as those that it adds are by their shape
+  pub taken : AllByRecursion (λ k. k.shard ≡ s.shard) (taken_by x)
 
 -- the bytes are the version with this state, made by this transition
 abbrev pub VersionOf : ShardState → Transition → List ℕ → Type 0

@@ -53,6 +53,7 @@ fn next_u32(total: usize, bytes: &[u8]) -> Result<(u32, &[u8]), VersionFault>
     Ok((number, rest))
 }
 
+#[tactic(auto, unfolding(crate::specs::VersionReading::number_at))]
 pub(crate) fn next_u64(total: usize, bytes: &[u8]) -> Result<(u64, &[u8]), VersionFault>
     ensures { Gives (λ x. (x.0, x.1.now)) result (number_at total bytes.now) }
 {
