@@ -1,2 +1,4 @@
 pub mod Prefixes
 pub mod Logs
+pub mod Entries
+pub mod Versions

@@ -6,7 +6,7 @@ use Rattle.std.proofs.lemmas.Bool.Decides.{leb_tells, nat_tests}
 use Rattle.state_core.specs.Lists.{Among}
 use Rattle.state_core.proofs.ListLemmas.{bool_cases}
 use Rattle.store_core.specs.declared.versions.Version.{Version}
-use Rattle.store_core.specs.Stores.{Log, last_number, same_number, is_last_number, last_of, numbered, live, committed, truncated, gone}
+use Rattle.store_core.specs.Stores.{Log, last_number, same_number, is_last_number, next_number, last_of, numbered, live, committed, truncated, gone}
 use Rattle.history_core.specs.Histories.{bytes_from, version_at, commits}
 use Rattle.history_core.specs.Stands.{end_of}
 
@@ -24,8 +24,8 @@ there-from first (w ∷ vs) n low high =
     elim (bool_cases (eqb n first)) [
       | inl e ↦ (w, rw e)
       | inr e ↦
-        let ne : n ≡ first → ⊥ = eqb-false n first e in
-        let (v, h) = there-from (first + 1) vs n (omega arith) (omega arith) in (v, rw e h)
+          let ne : n ≡ first → ⊥ = eqb-false n first e in
+          let (v, h) = there-from (first + 1) vs n (omega arith) (omega arith) in (v, rw e h)
     ]
 
 -- past the first one
@@ -54,10 +54,10 @@ append-either first (w ∷ vs) b n v h =
     elim (bool_cases (eqb n first)) [
       | inl e ↦ inl (rw e (rw e at h))
       | inr e ↦
-        elim (append-either (first + 1) vs b n v (rw e at h)) [
-          | inl g ↦ inl (rw e g)
-          | inr g ↦ let eq : n ≡ (first + 1) + length vs = g.0 in inr (omega arith, g.1)
-        ]
+          elim (append-either (first + 1) vs b n v (rw e at h)) [
+            | inl g ↦ inl (rw e g)
+            | inr g ↦ let eq : n ≡ (first + 1) + length vs = g.0 in inr (omega arith, g.1)
+          ]
     ]
 
 pub version_bounds : (log : Log) (n : ℕ) (v : List ℕ) → version_at log n ≡ Some v → (log.first ≤ n) × (n < end_of log)
@@ -127,6 +127,9 @@ last_none log h = let t : nat_lt 0 (length log.versions) ≡ false = grind (arit
 pub last_number-committed : (log : Log) (b : List ℕ) → last_number (committed log b) ≡ Some (end_of log)
 last_number-committed log b = last_some (length log.versions) (committed log b) (omega (arith, length-append log.versions (b ∷ [])))
 
+pub empty_last : (log : Log) → log.versions ≡ [] → last_number log ≡ None
+empty_last log h = last_none log (ap length h)
+
 -- the last number is told by the end, and by whether there is a version
 same_last : (k n : ℕ) (a b : Log) → length a.versions ≡ suc k → length b.versions ≡ suc n → end_of a ≡ end_of b → last_number a ≡ last_number b
 same_last k n a b x y e = last_some k a x ∙ ap Some (omega arith) ∙ sym (last_some n b y)
@@ -181,6 +184,18 @@ commits_some log n h = go (length log.versions) refl
         let same : n ≡ log.first + m = cc in
         omega arith
 
+pub commits_none_last : (log : Log) → commits log None ≡ true → last_number log ≡ None
+commits_none_last log h = sym (commits_last log None h)
+
+-- the number that a commit is answered with
+pub commits_next : (log : Log) (expected : Option ℕ) → (log.versions ≡ [] → log.first ≡ 0) → commits log expected ≡ true → next_number expected ≡ end_of log
+commits_next log None z h =
+    let e : log.versions ≡ [] = last_none_empty log (commits_none_last log h) in
+    let f : log.first ≡ 0 = z e in
+    let l : length log.versions ≡ 0 = ap length e in
+    omega arith
+commits_next log (Some n) z h = commits_some log n h
+
 pub commits_none : (log : Log) → commits log None ≡ true → log.versions ≡ []
 commits_none log h = last_none_empty log (sym (commits_last log None h))
 
@@ -199,8 +214,8 @@ among-filter P p [] h = h
 among-filter P p (x ∷ xs) h =
     elim (bool_cases (p x)) [
       | inl e ↦
-        let h2 : Among P (x ∷ filter p xs) = subst (λ (t : Bool). Among P (cond t (x ∷ filter p xs) (filter p xs))) e h in
-        elim h2 [ inl a ↦ inl a | inr a ↦ inr (among-filter P p xs a) ]
+          let h2 : Among P (x ∷ filter p xs) = subst (λ (t : Bool). Among P (cond t (x ∷ filter p xs) (filter p xs))) e h in
+          elim h2 [ inl a ↦ inl a | inr a ↦ inr (among-filter P p xs a) ]
       | inr e ↦ inr (among-filter P p xs (subst (λ (t : Bool). Among P (cond t (x ∷ filter p xs) (filter p xs))) e h))
     ]
 
