@@ -2,3 +2,5 @@ pub mod Prefixes
 pub mod Logs
 pub mod Entries
 pub mod Versions
+pub mod Chains
+pub mod KeyChains
