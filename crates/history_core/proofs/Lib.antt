@@ -4,3 +4,6 @@ pub mod Entries
 pub mod Versions
 pub mod Chains
 pub mod KeyChains
+pub mod Owners
+pub mod Standing
+pub mod Turns
