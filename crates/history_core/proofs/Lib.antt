@@ -7,3 +7,4 @@ pub mod KeyChains
 pub mod Owners
 pub mod Standing
 pub mod Turns
+pub mod Blobs

@@ -5,6 +5,7 @@ use Rattle.history_core.proofs.KeyChains.{keys_first}
 use Rattle.history_core.proofs.Owners.{owned_version}
 use Rattle.history_core.proofs.Standing.{owners}
 use Rattle.history_core.proofs.Turns.{truncate_covered}
+use Rattle.history_core.proofs.Blobs.{origins}
 
 pub returns : goal.returns
 returns c a b e = sym e
