@@ -8,3 +8,4 @@ pub mod Owners
 pub mod Standing
 pub mod Turns
 pub mod Blobs
+pub mod Presence

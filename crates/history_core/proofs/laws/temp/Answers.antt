@@ -6,6 +6,7 @@ use Rattle.history_core.proofs.Owners.{owned_version}
 use Rattle.history_core.proofs.Standing.{owners}
 use Rattle.history_core.proofs.Turns.{truncate_covered}
 use Rattle.history_core.proofs.Blobs.{origins}
+use Rattle.history_core.proofs.Presence.{presence}
 
 pub returns : goal.returns
 returns c a b e = sym e
