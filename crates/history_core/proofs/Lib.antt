@@ -4,6 +4,7 @@ pub mod Entries
 pub mod Versions
 pub mod Chains
 pub mod KeyChains
+pub mod StateFacts
 pub mod Owners
 pub mod Standing
 pub mod Turns
