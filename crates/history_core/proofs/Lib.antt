@@ -10,3 +10,4 @@ pub mod Standing
 pub mod Turns
 pub mod Blobs
 pub mod Presence
+pub mod Once

@@ -3,3 +3,4 @@ pub mod Histories
 pub mod Discipline
 pub mod Stands
 pub mod Laws
+pub mod Spending
