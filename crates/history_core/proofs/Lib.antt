@@ -10,4 +10,5 @@ pub mod Standing
 pub mod Turns
 pub mod Blobs
 pub mod Presence
+pub mod Shown
 pub mod Once
