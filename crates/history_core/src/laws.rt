@@ -1,0 +1,7 @@
+// Laws of histories, each the contract of a function that does nothing.
+ghost use Rattle.history_core.specs.Laws.{LawfulPrefix};
+
+/// A prefix of a lawful history is lawful.
+pub fn lawful_prefix()
+    ensures { LawfulPrefix }
+{}
