@@ -2,4 +2,5 @@ pub mod Readings
 pub mod Histories
 pub mod Discipline
 pub mod Stands
+pub mod Questions
 pub mod Laws
