@@ -3,4 +3,5 @@ pub mod Histories
 pub mod Discipline
 pub mod Stands
 pub mod Questions
+pub mod Walks
 pub mod Laws
