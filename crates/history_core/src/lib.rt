@@ -3,4 +3,3 @@
 
 pub mod laws;
 pub mod part_laws;
-mod walks;
