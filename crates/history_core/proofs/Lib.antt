@@ -12,3 +12,12 @@ pub mod Blobs
 pub mod Presence
 pub mod Shown
 pub mod Once
+pub mod ReadingFacts
+pub mod Contents
+pub mod StateSums
+pub mod PartContents
+pub mod Content
+pub mod Bases
+pub mod StandsAfter
+pub mod Stays
+pub mod LawfulLaws

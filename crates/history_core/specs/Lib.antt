@@ -2,5 +2,7 @@ pub mod Readings
 pub mod Histories
 pub mod Discipline
 pub mod Stands
+pub mod Questions
+pub mod Walks
 pub mod Laws
 pub mod Spending
