@@ -21,3 +21,5 @@ pub mod Bases
 pub mod StandsAfter
 pub mod Stays
 pub mod LawfulLaws
+pub mod AnswerLaws
+pub mod GotLaws

@@ -6,3 +6,4 @@ pub mod Questions
 pub mod Walks
 pub mod Laws
 pub mod Spending
+pub mod Answers
