@@ -18,3 +18,4 @@ pub mod VersionSteps
 pub mod VersionTransitions
 pub mod VersionStates
 pub mod VersionFacts
+pub mod Tokens
