@@ -24,3 +24,4 @@ pub mod VersionSteps
 pub mod VersionTransitions
 pub mod VersionStates
 pub mod VersionFacts
+pub mod Tokens

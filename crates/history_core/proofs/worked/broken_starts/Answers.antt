@@ -1,0 +1,5 @@
+use Rattle.history_core.proofs.worked.broken_starts.Goals as goal
+use Rattle.history_core.proofs.WorkedStarts.{with_part_lawful, with_dropped_lawful}
+
+pub returns : goal.returns
+returns c = record { with_part = with_part_lawful; with_dropped = with_dropped_lawful }

@@ -1,0 +1,14 @@
+pub mod Readings
+pub mod Histories
+pub mod Discipline
+pub mod Stands
+pub mod Questions
+pub mod Walks
+pub mod Laws
+pub mod Worked
+pub mod WorkedTrail
+pub mod WorkedBroken
+pub mod WorkedFailures
+pub mod WorkedCompacted
+pub mod Spending
+pub mod Answers

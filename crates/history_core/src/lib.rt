@@ -1,0 +1,7 @@
+//! Histories of calls: what a client may do, and what a store stands for.
+#![tactic(auto)]
+
+pub mod answer_laws;
+pub mod laws;
+pub mod part_laws;
+pub mod worked;
