@@ -14,6 +14,7 @@ pub mod Contents
 pub mod StateSums
 pub mod PartContents
 pub mod Content
+pub mod WalkSteps
 pub mod Bases
 pub mod StandsAfter
 pub mod Stays

@@ -4,4 +4,5 @@ pub mod Discipline
 pub mod Stands
 pub mod Questions
 pub mod Walks
+pub mod WalkViews
 pub mod Laws
