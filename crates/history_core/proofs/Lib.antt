@@ -15,6 +15,7 @@ pub mod StateSums
 pub mod PartContents
 pub mod Content
 pub mod WalkSteps
+pub mod Walking
 pub mod Bases
 pub mod StandsAfter
 pub mod Stays

@@ -5,4 +5,5 @@ pub mod Stands
 pub mod Questions
 pub mod Walks
 pub mod WalkViews
+pub mod Accepting
 pub mod Laws
