@@ -1,15 +1,9 @@
 -- Where the bytes under keys come from, and how long they stay.
-use Rattle.std.proofs.Common.{◌≡◌, ◌&&◌, ℕ, zero, suc, ◌+◌, ◌-◌, ◌<◌, ◌≤◌, Bool, true, false, cond, List, [], ◌∷◌, ◌++◌, ◌⊎◌, inl, inr, refl, arith, subst, sym, ap, ◌∙◌, eqb, Some, None, Option, length}
-use Rattle.std.proofs.lemmas.Bool.{eqb-true, eqb-false, eq-eqb, ne_eqb}
-use Rattle.std.specs.List.{AllByRecursion}
-use Rattle.std.specs.Prelude.{not, reverse}
-use Rattle.std.specs.Ordering.{is_eq}
+use Rattle.std.proofs.Common.{◌≡◌, ℕ, ◌+◌, ◌<◌, ◌≤◌, Bool, cond, List, [], ◌∷◌, ◌⊎◌, inl, inr, refl, arith, subst, sym, ap, ◌∙◌, Some, None, Option}
 use Rattle.state_core.specs.Lists.{Among}
-use Rattle.state_core.proofs.ListLemmas.{bool_cases, each_among}
-use Rattle.update_core.specs.declared.updates.Update.{Update}
+use Rattle.state_core.proofs.ListLemmas.{each_among}
 use Rattle.store_core.specs.declared.shards.ShardId.{ShardId}
 use Rattle.store_core.specs.declared.part_keys.PartKey.{PartKey}
-use Rattle.store_core.specs.declared.versions.Version.{Version}
 use Rattle.store_core.specs.declared.calls.Call.{Call}
 use Rattle.store_core.specs.declared.calls.Call.TheVariants as calls
 use Rattle.store_core.specs.declared.replies.Reply.{Reply}
@@ -17,27 +11,22 @@ use Rattle.store_core.specs.declared.replies.Reply.TheVariants as replies
 use Rattle.store_core.specs.declared.outcomes.Outcome.{Outcome}
 use Rattle.store_core.specs.declared.outcomes.Outcome.TheVariants.{Took, FailedTook, FailedLost}
 use Rattle.store_core.specs.declared.entries.Entry.{Entry}
-use Rattle.store_core.specs.Stores.{Log, Stored, no_log, shard_cmp, key_cmp, set_at, same_number, last_number, is_last_number, next_number, committed, truncated, cas_log, cas_reply, reply_of, after_call}
-use Rattle.store_core.specs.Histories.{after_outcome, reply_by, reply}
-use Rattle.store_core.specs.Ports.{Answered, answered}
+use Rattle.store_core.specs.Stores.{Log, Stored, committed}
+use Rattle.store_core.specs.Histories.{after_outcome, reply_by}
+use Rattle.store_core.specs.Ports.{Answered}
 use Rattle.store_core.specs.Newest.{replay_back, mine_back}
-use Rattle.state_core.specs.declared.kinds.Kind.{Kind}
 use Rattle.state_core.specs.declared.transitions.Transition.{Transition}
-use Rattle.state_core.specs.declared.transitions.Transition.TheVariants.{Init, Join, Leave, Renew, Advance, Expire, Append, Merge}
-use Rattle.state_core.specs.States.{ShardState, IsState, KeyFits, Names, floor}
-use Rattle.state_core.specs.Steps.{Applies, Takes, Adds, Spends, acts_for, init}
+use Rattle.state_core.specs.States.{ShardState, Names}
+use Rattle.state_core.specs.Steps.{Spends}
 use Rattle.state_core.specs.Versions.{version_in}
-use Rattle.state_core.proofs.VersionFacts.{version_in_state, version_in_shard, version_in_number}
-use Rattle.history_core.specs.Readings.{rows_in}
-use Rattle.history_core.specs.Histories.{same_shard, version_at, commits, took_effect, Told, Shows, grown, ever}
-use Rattle.history_core.specs.Discipline.{JoinsAs, IsJoin, Owns, OwnsSome, SpendsIn, IsCasUnder, SetsSame, IsStored, IsGot, StoredAs, GotAs, SetAllowed, Hold, Holds, AppendHolds, MergeHolds, CasAllowed, TakesIn, TakenUpTo, NewestIs, IsScanTaking, AllDeleted, IsScanCovering, Allows, OwnLawful, LawfulBack}
-use Rattle.history_core.specs.Stands.{read_version, VersionIs, StateIn, end_of, IsLast, TakenIn, IsChain, KeysKept, KeysIn, StateAt, IsPresent}
+use Rattle.history_core.specs.Histories.{ever}
+use Rattle.history_core.specs.Discipline.{IsJoin, Owns, OwnsSome, IsCasUnder, SetsSame, IsStored, IsGot, StoredAs, GotAs, SetAllowed, Allows, LawfulBack}
+use Rattle.history_core.specs.Stands.{StateIn, TakenIn}
 use Rattle.state_core.proofs.Keys.{added_of, named_after}
 use Rattle.history_core.proofs.Entries.{key_same, BlobStep, same, set, gone, blob_step, among_mine, mine_older, mine_newest, lawful_newest, lawful_older}
-use Rattle.history_core.proofs.Chains.{after_commit}
-use Rattle.history_core.proofs.KeyChains.{only_first}
+use Rattle.history_core.proofs.StateFacts.{state_after, state_first}
 use Rattle.history_core.proofs.Standing.{Standing, standing, Owners, owners}
-use Rattle.history_core.proofs.Turns.{Turn, still, shorter, begins, grows, turn, version_ever_on, delete_shown}
+use Rattle.history_core.proofs.Turns.{Turn, still, shorter, begins, grows, turn, taken_ever_on, delete_shown}
 
 -- where a history begins: what its versions name and its blobs hold is of members below a bound
 pub record Begins (start : Stored) (shard : ShardId) (start_member : ℕ) : Type 0 where
@@ -156,12 +145,12 @@ module _ (start : Stored) (shard : ShardId) (start_member : ℕ) (begin : Begins
       go (shorter below c q r) = adders_up e es k (older n s k (subst (λ (g : Log). StateIn shard g n s) q h) named)
       go (begins expected bytes c f q r) =
           let h2 = subst (λ (g : Log). StateIn shard g n s) (q ∙ ap (λ (g : Log). committed g bytes) f.empty) h in
-          absurd (subst (λ (t : ShardState). Names t k) (sym (only_first shard bytes f.first n s h2.0 h2.1).0) named)
+          absurd (subst (λ (t : ShardState). Names t k) (sym (state_first shard bytes f.first n s h2)) named)
       go (grows expected bytes c t k2 b q r) =
           let h2 = subst (λ (g : Log). StateIn shard g n s) q h in
           let m = b.commit in
-          elim (after_commit shard (ever start shard es) bytes m n s h2.0 h2.1) [
-            | inl g ↦ adders_up e es k (older n s k (h2.0, g) named)
+          elim (state_after shard (ever start shard es) bytes m n s h2) [
+            | inl g ↦ adders_up e es k (older n s k g named)
             | inr g ↦ elim (named_after m.from m.to m.step k m.applies (subst (λ (t2 : ShardState). Names t2 k) g.1 named)) [
               | inl before ↦ adders_up e es k (older m.n m.from k m.from_is before)
               | inr added ↦
@@ -254,7 +243,7 @@ module _ (start : Stored) (shard : ShardId) (start_member : ℕ) (begin : Begins
       Among (IsSet k b) (mine_back start es c) × Owned es c k × (((replay_back start es).blobs k ≡ Some b) ⊎ ((n : ℕ) × TakenIn shard (ever start shard es) n k))
 
   pub taken_on : (e : Entry) (es : List Entry) (n : ℕ) (k : PartKey) → TakenIn shard (ever start shard es) n k → TakenIn shard (ever start shard (e ∷ es)) n k
-  taken_on e es n k t = (t.0, t.1, version_ever_on start shard e es n t.0 t.1 t.2, t.3)
+  taken_on e es n k t = taken_ever_on start shard e es n k t
 
   stores_step : (e : Entry) (es : List Entry) → LawfulBack start (e ∷ es) → Stores es → Stores (e ∷ es)
   stores_step e es l older c k b here st = elim (among_mine (λ (w : Answered). IsStored k b w.entry.call w.reply) start e es c st) [

@@ -19,7 +19,6 @@ use Rattle.state_core.specs.declared.transitions.Transition.TheVariants.{Init, J
 use Rattle.state_core.specs.States.{ShardState, IsState, floor, keys_of}
 use Rattle.state_core.specs.Steps.{Applies, Takes, Adds}
 use Rattle.state_core.specs.Versions.{version_in}
-use Rattle.state_core.proofs.VersionFacts.{version_in_state, version_in_number}
 use Rattle.state_core.proofs.ListLemmas.{each_both, each_intro, bool_cases, append-nil}
 use Rattle.state_core.proofs.Floors.{floor_top, floor_rises}
 use Rattle.state_core.proofs.Batches.{runs_each, runs_state, upper_rises, Unweighed, unweighed_on, each_part}
@@ -29,12 +28,13 @@ use Rattle.history_core.specs.Discipline.{StoredAs, GotAs, Holds, LawfulBack}
 use Rattle.history_core.specs.Stands.{StateIn, end_of, IsLast, IsChain, KeysIn, BatchHolds, appended_by, appended, accepted}
 use Rattle.history_core.proofs.Logs.{end_of-committed}
 use Rattle.history_core.proofs.Entries.{shard_same, cas_keeps, lawful_older}
-use Rattle.history_core.proofs.Chains.{after_commit, version_below, chain_rises, bytes_of}
-use Rattle.history_core.proofs.KeyChains.{only_first, fresh_to, shard_of_added}
+use Rattle.history_core.proofs.Chains.{chain_rises}
+use Rattle.history_core.proofs.StateFacts.{state_rules, state_number, state_below, state_after, state_first, last_commit}
+use Rattle.history_core.proofs.KeyChains.{fresh_to, shard_of_added}
 use Rattle.history_core.proofs.Standing.{from_last}
 use Rattle.history_core.proofs.Turns.{Turn, still, shorter, begins, grows, turn}
 use Rattle.history_core.proofs.Blobs.{Begins, stores, gets}
-use Rattle.history_core.proofs.Presence.{Present, presence, named_keeps, kept_at, last_commit}
+use Rattle.history_core.proofs.Presence.{Present, presence, named_keeps, kept_at}
 use Rattle.history_core.proofs.Contents.{Content, content_same, content_append, content_merge, part_rows_under, part_rows_on, hold_rows, batch_grow}
 
 -- an entry that adds no version appends nothing
@@ -176,12 +176,12 @@ module _ (start : Stored) (shard : ShardId) (start_member : ℕ) (begin : Begins
       go (begins expected bytes c f q r) =
           let q2 = q ∙ ap (λ (g : Log). committed g bytes) f.empty in
           let st2 = subst (λ (g : Log). StateIn shard g number last) q2 st in
-          let last_is3 = (only_first shard bytes f.first number last st2.0 st2.1).0 in
+          let last_is3 = state_first shard bytes f.first number last st2 in
           let none : accepted shard list start (e ∷ es) ≡ [] = rw (appended_none (replay_back start es) shard e e.call expected bytes c f.none, empty_list es before f.empty) refl in
           subst (λ (us : List Update). ContentAt shard (ever start shard (e ∷ es)) (replay_back start (e ∷ es)) us number last) (sym none)
           (subst (λ (s : ShardState). ContentAt shard (ever start shard (e ∷ es)) (replay_back start (e ∷ es)) [] number s) last_is3 (record {
             content = λ n s le h. let h2 = subst (λ (g : Log). StateIn shard g n s) q2 h in
-                subst (λ (t : ShardState). AllByRecursion (BatchHolds (replay_back start (e ∷ es)) []) t.batches) (only_first shard bytes f.first n s h2.0 h2.1).0 tt;
+                subst (λ (t : ShardState). AllByRecursion (BatchHolds (replay_back start (e ∷ es)) []) t.batches) (state_first shard bytes f.first n s h2) tt;
             before_upper = tt;
             light = omega arith;
             unweighed = λ u. refl;
@@ -198,9 +198,8 @@ module _ (start : Stored) (shard : ShardId) (start_member : ℕ) (begin : Begins
           let keys = subst (KeysIn shard (ever start shard es)) same_last kept.keys in
           let up : floor m.from ≤ floor m.to = floor_rises m.from m.to m.step m.applies in
           let up2 : floor last ≡ floor m.to = ap floor last_is2 in
-          let (bytes2, there2, reads2) = bytes_of shard (ever start shard es) m.n m.from m.from_is.0 m.from_is.1 in
-          let number_from : m.from.number ≡ m.n = version_in_number shard m.n bytes2 m.from m.from_is.0 reads2 in
-          let rules : IsState m.from = version_in_state shard m.n bytes2 m.from m.from_is.0 reads2 in
+          let number_from : m.from.number ≡ m.n = state_number shard (ever start shard es) m.n m.from m.from_is in
+          let rules : IsState m.from = state_rules shard (ever start shard es) m.n m.from m.from_is in
           let top : floor m.from ≤ m.from.number = floor_top m.from.number m.from.members in
           let keeps : (k : PartKey) → (replay_back start (e ∷ es)).blobs k ≡ (replay_back start es).blobs k = λ k. cas_keeps e.call shard expected bytes c (replay_back start es) e.outcome k in
           let new : List Update = appended_by (replay_back start es) (Some (m.to, m.step)) in
@@ -224,16 +223,15 @@ module _ (start : Stored) (shard : ShardId) (start_member : ℕ) (begin : Begins
             content = λ n s le h.
                 let h2 = subst (λ (g : Log). StateIn shard g n s) q h in
                 batches_on e es s.batches (list_was ++ new) (λ k among. keeps k)
-                (elim (after_commit shard (ever start shard es) bytes m n s h2.0 h2.1) [
+                (elim (state_after shard (ever start shard es) bytes m n s h2) [
                   | inl g ↦
-                      let (low, high) = version_below shard (ever start shard es) n s h2.0 g in
+                      let (low, high) = state_below shard (ever start shard es) n s g in
                       let at_end : (m.n + 1) ≡ end_of (ever start shard es) = m.last in
-                      let (b4, there4, reads4) = bytes_of shard (ever start shard es) n s h2.0 g in
-                      let rules4 : IsState s = version_in_state shard n b4 s h2.0 reads4 in
+                      let rules4 : IsState s = state_rules shard (ever start shard es) n s g in
                       each_both (λ w. (j : ℕ) → covers w.desc.upper j ≡ true → covers s.upper j ≡ true) (BatchHolds (replay_back start es) list_was) (BatchHolds (replay_back start es) (list_was ++ new)) s.batches
                       (λ w f hw. batch_grow (replay_back start es) list_was new w m.from.upper
-                      (λ j cj. chain_keeps shard (ever start shard es) kept.chain j n m.n (omega arith) s m.from (h2.0, g) m.from_is (f j cj)) made.late hw)
-                      (runs_each (Some 0) s.batches s.upper (runs_state s rules4)) (old.content n s (omega arith) (h2.0, g))
+                      (λ j cj. chain_keeps shard (ever start shard es) kept.chain j n m.n (omega arith) s m.from g m.from_is (f j cj)) made.late hw)
+                      (runs_each (Some 0) s.batches s.upper (runs_state s rules4)) (old.content n s (omega arith) g)
                   | inr g ↦ subst (λ (t2 : ShardState). AllByRecursion (BatchHolds (replay_back start es) (list_was ++ new)) t2.batches) (sym g.1) made.batches
                 ]);
             before_upper = made.before_upper;

@@ -4,11 +4,14 @@ pub mod Entries
 pub mod Versions
 pub mod Chains
 pub mod KeyChains
+pub mod StateFacts
 pub mod Owners
 pub mod Standing
 pub mod Turns
 pub mod Blobs
 pub mod Presence
+pub mod Shown
+pub mod Once
 pub mod ReadingFacts
 pub mod Contents
 pub mod StateSums

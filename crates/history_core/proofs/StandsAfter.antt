@@ -11,7 +11,7 @@ use Rattle.state_core.specs.Lists.{Among}
 use Rattle.state_core.specs.declared.transitions.Transition.{Transition}
 use Rattle.state_core.specs.States.{ShardState, floor}
 use Rattle.state_core.specs.Versions.{version_in}
-use Rattle.state_core.proofs.VersionFacts.{version_in_number}
+use Rattle.history_core.proofs.StateFacts.{state_number}
 use Rattle.state_core.proofs.Floors.{floor_top}
 use Rattle.history_core.specs.Histories.{version_at, ever}
 use Rattle.history_core.specs.Discipline.{LawfulBack, Owns}
@@ -67,8 +67,7 @@ module _ (start : Stored) (shard : ShardId) (list : List Update) (base : Base st
   stands_kept k =
       let here = presence start shard base.start_member base.begin base.present es l k.number k.last k.newest k.state in
       let held = contained start shard base.start_member base.begin list base.present base.unstarted base.content es l k.number k.last k.newest k.state in
-      let (bytes2, there2, reads2) = bytes_of shard (ever start shard es) k.number k.last k.state.0 k.state.1 in
-      let number_is : k.last.number ≡ k.number = version_in_number shard k.number bytes2 k.last k.state.0 reads2 in
+      let number_is : k.last.number ≡ k.number = state_number shard (ever start shard es) k.number k.last k.state in
       let top : floor k.last ≤ k.last.number = floor_top k.last.number k.last.members in
       let (b, there) = here.live_on k.number (omega arith) (omega arith) in
       record {

@@ -7,3 +7,4 @@ pub mod Walks
 pub mod WalkViews
 pub mod Accepting
 pub mod Laws
+pub mod Spending
