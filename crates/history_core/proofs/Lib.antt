@@ -23,3 +23,4 @@ pub mod Bases
 pub mod StandsAfter
 pub mod Stays
 pub mod LawfulLaws
+pub mod AcceptedLaws
