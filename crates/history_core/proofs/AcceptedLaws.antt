@@ -1,5 +1,5 @@
 -- What a walk over a lawful trail has seen is the accepted list.
-use Rattle.std.proofs.Common.{◌≡◌, ◌&&◌, ℕ, ◌+◌, ◌≤◌, Bool, true, false, cond, List, [], ◌∷◌, ◌++◌, ◌⊎◌, inl, inr, length, Option, Some, None, refl, sym, ap, ◌∙◌, subst, arith}
+use Rattle.std.proofs.Common.{◌≡◌, ◌&&◌, ℕ, ◌+◌, Bool, true, false, cond, List, [], ◌∷◌, ◌++◌, inl, inr, length, Option, Some, None, refl, sym, ap, ◌∙◌, subst, arith}
 use Rattle.std.specs.Prelude.{reverse}
 use Rattle.std.specs.List.{AllByRecursion}
 use Rattle.update_core.specs.declared.updates.Update.{Update}
@@ -7,27 +7,24 @@ use Rattle.store_core.specs.declared.shards.ShardId.{ShardId}
 use Rattle.store_core.specs.declared.part_keys.PartKey.{PartKey}
 use Rattle.store_core.specs.declared.calls.Call.{Call}
 use Rattle.store_core.specs.declared.calls.Call.TheVariants as calls
-use Rattle.store_core.specs.declared.replies.Reply.TheVariants as replies
 use Rattle.store_core.specs.declared.outcomes.Outcome.{Outcome}
 use Rattle.store_core.specs.declared.outcomes.Outcome.TheVariants.{Took, FailedTook, FailedLost}
 use Rattle.store_core.specs.declared.entries.Entry.{Entry}
-use Rattle.store_core.specs.Stores.{Log, Stored, last_number, next_number, committed, truncated, cas_log, after_call, reply_of, cas_reply}
-use Rattle.store_core.specs.Histories.{after_outcome, reply_by, reply, next}
+use Rattle.store_core.specs.Stores.{Log, Stored, last_number, next_number, committed, cas_log, after_call}
+use Rattle.store_core.specs.Histories.{after_outcome, reply_by}
 use Rattle.store_core.specs.Ports.{Answered}
 use Rattle.store_core.specs.Newest.{replay_back, mine_back}
-use Rattle.state_core.specs.Lists.{Among}
 use Rattle.state_core.specs.States.{ShardState}
 use Rattle.state_core.specs.declared.transitions.Transition.{Transition}
 use Rattle.state_core.specs.declared.transitions.Transition.TheVariants.{Init, Join, Leave, Renew, Advance, Expire, Append, Merge}
 use Rattle.state_core.specs.Versions.{version_in}
-use Rattle.state_core.proofs.ListLemmas.{bool_cases, append-nil, each_map}
-use Rattle.history_core.specs.Readings.{rows_in}
+use Rattle.state_core.proofs.ListLemmas.{bool_cases, append-nil}
 use Rattle.history_core.specs.Histories.{same_shard, commits, took_effect, ever}
 use Rattle.history_core.specs.Discipline.{Hold, Holds, StoredAs, IsStored, Allows, CasAllowed, LawfulBack}
 use Rattle.history_core.specs.Stands.{end_of, rows_under, rows_of_blob, appended_by, appended, accepted, accepted_of}
 use Rattle.history_core.specs.Walks.{Walked, with_blobs, number_given, rows_given, after_given, walk_call, walk_entry, walk_back}
 use Rattle.history_core.specs.Accepting.{is_cas, takes_cas, NamesShard, CommitsAt, IsOriginOf}
-use Rattle.history_core.proofs.Logs.{last_none_empty, empty_last, last_number-committed, last_number-truncated, commits_last, commits_some, and_true}
+use Rattle.history_core.proofs.Logs.{last_none_empty, last_number-committed, last_number-truncated, commits_last, commits_some, and_true}
 use Rattle.history_core.proofs.Prefixes.{lawful_back}
 use Rattle.history_core.proofs.Entries.{shard_same, among_mine, lawful_newest, lawful_older, LogStep, idle, cuts, adds, log_step, cas_log_is}
 use Rattle.history_core.proofs.Versions.{logs_agree, live}
@@ -161,6 +158,7 @@ log_cas store shard e c = effect e.outcome c.took ∙ ap (λ (q : Call). (after_
     effect Took h = refl
     effect FailedTook h = refl
     effect FailedLost h = absurd (cc)
+
     here : (after_call store (calls.Cas shard c.expected c.bytes)).logs shard ≡ cas_log (store.logs shard) c.expected c.bytes
     here = ap (λ (b : Bool). cond b (cas_log (store.logs shard) c.expected c.bytes) (store.logs shard)) (shard_same shard)
 
@@ -204,8 +202,10 @@ module _ (start : Stored) (shard : ShardId) (list : List Update) (z : (start.log
   module _ (e : Entry) (es : List Entry) (l : LawfulBack start (e ∷ es)) (old : Sees es) (c : TookCas shard e) where
     abbrev W : Walked
     W = walk_back list es
+
     abbrev S : Stored
     S = replay_back start es
+
     abbrev L : Log
     L = live start shard es
 

@@ -1,12 +1,10 @@
 -- Steps of a walk in memory.
-use Rattle.std.proofs.Common.{◌≡◌, ℕ, suc, ◌+◌, ◌<◌, List, [], ◌∷◌, ◌++◌, take, get_or, length, Option, Some, None, Result, Ok, Err, refl, sym, ap, ◌∙◌, append_assoc, subst, arith}
-use Rattle.std.specs.Prelude.{OnOk, IfOk}
+use Rattle.std.proofs.Common.{◌≡◌, ℕ, ◌+◌, ◌<◌, List, [], ◌∷◌, ◌++◌, take, get_or, length, Ok, refl, sym, ap, ◌∙◌, append_assoc}
 use Rattle.std.specs.Result.{result_ok}
 use Rattle.std.proofs.lemmas.List.{take_more, append-nil}
 use Rattle.update_core.specs.declared.updates.Update.{Update}
 use Rattle.store_core.specs.declared.part_keys.PartKey.{PartKey}
 use Rattle.store_core.specs.Stores.{Stored}
-use Rattle.part_codec.specs.declared.part_faults.PartFault.{PartFault}
 use Rattle.part_codec.specs.Reading.{all_of}
 use Rattle.part_codec.proofs.Fields.{IsBytes}
 use Rattle.history_core.specs.Readings.{rows_in}

@@ -1,5 +1,5 @@
 -- What a walk over a trail has seen is what the trail did.
-use Rattle.std.proofs.Common.{◌≡◌, ◌&&◌, ℕ, suc, ◌+◌, ◌<◌, Bool, true, false, cond, eqb, List, [], ◌∷◌, ◌++◌, ◌⊎◌, inl, inr, take, get_or, length, Option, Some, None, refl, sym, ap, ◌∙◌, subst, arith}
+use Rattle.std.proofs.Common.{◌≡◌, ◌&&◌, ℕ, ◌+◌, ◌<◌, Bool, true, false, cond, List, [], ◌∷◌, ◌++◌, inl, inr, take, get_or, length, Option, Some, None, refl, sym, ap, ◌∙◌, subst}
 use Rattle.std.specs.Prelude.{reverse, not, ◌==◌, ◌-◌, ◌^◌}
 use Rattle.std.specs.List.{AllByRecursion}
 use Rattle.std.specs.Ordering.{is_eq}
@@ -12,15 +12,15 @@ use Rattle.store_core.specs.declared.calls.Call.TheVariants as calls
 use Rattle.store_core.specs.declared.outcomes.Outcome.{Outcome}
 use Rattle.store_core.specs.declared.outcomes.Outcome.TheVariants.{Took, FailedTook, FailedLost}
 use Rattle.store_core.specs.declared.entries.Entry.{Entry}
-use Rattle.store_core.specs.Stores.{Log, Stored, key_cmp, set_at, same_number, last_number, is_last_number, next_number}
+use Rattle.store_core.specs.Stores.{Log, Stored, key_cmp, same_number, last_number, next_number}
 use Rattle.store_core.specs.Histories.{next, after_outcome}
 use Rattle.store_core.specs.Newest.{replay_back}
 use Rattle.store_core.proofs.NewestLaws.{newest-first, oldest-last, replay_back-oldest}
 use Rattle.state_core.specs.Lists.{Among}
 use Rattle.state_core.proofs.ListLemmas.{bool_cases, each_append, each_front}
 use Rattle.history_core.specs.Histories.{commits, took_effect}
-use Rattle.history_core.specs.Walks.{Walked, number_past, number_given, after_given, after_cas, walk_call, walk_entry, walk_back}
-use Rattle.history_core.specs.Accepting.{is_cas, takes_cas, NamesShard, CommitsAt, FirstCommits}
+use Rattle.history_core.specs.Walks.{Walked, number_given, after_given, walk_call, walk_entry, walk_back}
+use Rattle.history_core.specs.Accepting.{takes_cas, CommitsAt, FirstCommits}
 use Rattle.history_core.proofs.Entries.{key_same}
 
 -- one more entry of a trail
@@ -57,8 +57,9 @@ first_back s shard [] h = tt
 first_back s shard (e ∷ es) h =
     subst (FirstBack s shard) (sym (oldest-last e es))
     (elim (bool_cases (takes_cas e)) [
-    | inl t ↦ first_oldest_cas s shard (reverse es) e t (h.0 t)
-    | inr t ↦ first_oldest_other s shard (reverse es) e t (first_back (next s e) shard es (h.1 t)) ])
+      | inl t ↦ first_oldest_cas s shard (reverse es) e t (h.0 t)
+      | inr t ↦ first_oldest_other s shard (reverse es) e t (first_back (next s e) shard es (h.1 t))
+    ])
 
 pub all_back : (P : Entry → Type 0) (es : List Entry) → AllByRecursion P es → AllByRecursion P (reverse es)
 all_back P [] h = tt

@@ -1,5 +1,5 @@
-use Rattle.std.proofs.Common.{◌≡◌, ◌<◌, ◌∙◌, sym, ap, length, arith}
-use Rattle.history_core.specs.Walks.{Walked, walk_entry}
+use Rattle.std.proofs.Common.{◌≡◌, ◌<◌, ◌∙◌, sym, length, arith}
+use Rattle.history_core.specs.Walks.{walk_entry}
 use Rattle.history_core.specs.WalkViews.{walked_of}
 use Rattle.history_core.proofs.Walking.{one_more_entry}
 use Rattle.history_core.proofs.accepting.walked.Goals as goal
