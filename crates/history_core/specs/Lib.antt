@@ -7,4 +7,5 @@ pub mod Walks
 pub mod WalkViews
 pub mod Accepting
 pub mod Laws
+pub mod Example
 pub mod Spending
