@@ -44,7 +44,7 @@ got-of k q b None h = absurd h
 got-of k q b (Some v) h = (h.0, ap Some h.1)
 
 -- a Get that is answered with bytes found them there, and leaves them
-got_now : (k : PartKey) (b : List ℕ) (store : Stored) (call : Call) (outcome : Outcome) → IsGot k b call (reply_by store call outcome) → (store.blobs k ≡ Some b) × ((after_outcome store call outcome).blobs k ≡ store.blobs k)
+pub got_now : (k : PartKey) (b : List ℕ) (store : Stored) (call : Call) (outcome : Outcome) → IsGot k b call (reply_by store call outcome) → (store.blobs k ≡ Some b) × ((after_outcome store call outcome).blobs k ≡ store.blobs k)
 got_now k b store (calls.Get q) Took h = let (e, there) = got-of k q b (store.blobs q) h in (subst (λ (a : PartKey). store.blobs a ≡ Some b) e there, refl)
 got_now k b store (calls.Get q) FailedTook h = absurd h
 got_now k b store (calls.Get q) FailedLost h = absurd h

@@ -60,11 +60,11 @@ leased_law shard list h st l number last newest n held up =
           (s, (x, is), λ k named. let p = c.present n s k low2 (x, is) named in (p.0, p.1, ap replies.Bytes p.2, p.3))
     ]
 
-ever_behind : (start : Stored) (shard : ShardId) (fs es : List Entry) (n : ℕ) (s : ShardState) (x : Transition) → VersionIs shard (ever start shard es) n s x → VersionIs shard (ever start shard (fs ++ es)) n s x
+pub ever_behind : (start : Stored) (shard : ShardId) (fs es : List Entry) (n : ℕ) (s : ShardState) (x : Transition) → VersionIs shard (ever start shard es) n s x → VersionIs shard (ever start shard (fs ++ es)) n s x
 ever_behind start shard [] es n s x h = h
 ever_behind start shard (f ∷ fs) es n s x h = version_ever_on start shard f (fs ++ es) n s x (ever_behind start shard fs es n s x h)
 
-lawful_of_older : (start : Stored) (fs es : List Entry) → LawfulBack start (fs ++ es) → LawfulBack start es
+pub lawful_of_older : (start : Stored) (fs es : List Entry) → LawfulBack start (fs ++ es) → LawfulBack start es
 lawful_of_older start [] es l = l
 lawful_of_older start (f ∷ fs) es l = lawful_of_older start fs es (lawful_older start f (fs ++ es) l)
 
@@ -89,13 +89,13 @@ unchanged_back start shard list fs es st l n s k b at_n named there number last 
     elim holds [ inl none ↦ absurd (let p2 = p.2 in cc) | inr some ↦ ap replies.Bytes some ]
 
 -- a history with later entries, the newest first
-turned : (h : History) (later : List Entry) → reverse (with_entries h later).trail ≡ reverse later ++ reverse h.trail
+pub turned : (h : History) (later : List Entry) → reverse (with_entries h later).trail ≡ reverse later ++ reverse h.trail
 turned h later = reverse-append h.trail later
 
-lawful_both : (h : History) (later : List Entry) → Lawful (with_entries h later) → LawfulBack h.start (reverse later ++ reverse h.trail)
+pub lawful_both : (h : History) (later : List Entry) → Lawful (with_entries h later) → LawfulBack h.start (reverse later ++ reverse h.trail)
 lawful_both h later l = subst (LawfulBack h.start) (turned h later) (lawful_back (with_entries h later) l)
 
-store_both : (h : History) (later : List Entry) → store_after (with_entries h later) ≡ replay_back h.start (reverse later ++ reverse h.trail)
+pub store_both : (h : History) (later : List Entry) → store_after (with_entries h later) ≡ replay_back h.start (reverse later ++ reverse h.trail)
 store_both h later = replay-newest h.start (with_entries h later).trail ∙ ap (replay_back h.start) (turned h later)
 
 -- and it doesn't change

@@ -27,3 +27,6 @@ pub mod AcceptedLaws
 pub mod ExampleStates
 pub mod ExampleParts
 pub mod ExampleLawful
+pub mod AnswerLaws
+pub mod GotLaws
+pub mod SpentLaws

@@ -9,3 +9,4 @@ pub mod Accepting
 pub mod Laws
 pub mod Example
 pub mod Spending
+pub mod Answers

@@ -2,6 +2,7 @@
 #![tactic(auto)]
 
 mod accepting;
+pub mod answer_laws;
 pub mod example_laws;
 pub mod laws;
 pub mod part_laws;
