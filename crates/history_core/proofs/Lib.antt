@@ -24,9 +24,6 @@ pub mod StandsAfter
 pub mod Stays
 pub mod LawfulLaws
 pub mod AcceptedLaws
-pub mod ExampleStates
-pub mod ExampleParts
-pub mod ExampleLawful
 pub mod AnswerLaws
 pub mod GotLaws
 pub mod SpentLaws

@@ -12,6 +12,5 @@ pub mod WorkedTrail
 pub mod WorkedBroken
 pub mod WorkedFailures
 pub mod WorkedCompacted
-pub mod Example
 pub mod Spending
 pub mod Answers
