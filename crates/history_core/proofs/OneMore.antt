@@ -10,10 +10,6 @@ use Rattle.store_core.specs.Ports.{Answered, answered, mine, mine_from}
 use Rattle.store_core.proofs.PortLaws.{mine_from-append}
 use Rattle.history_core.specs.Discipline.{Allows, OwnLawful, Lawful}
 
--- a client's own entries, the newest first
-abbrev pub own_of : History → ℕ → List Answered
-own_of h c = reverse (mine h c)
-
 turned : (h : History) (e : Entry) (c : ℕ) →
     reverse (mine (with_entry h e) c) ≡ reverse (mine_from (store_after h) (e ∷ []) c) ++ reverse (mine h c)
 turned h e c = ap reverse (mine_from-append h.start h.trail (e ∷ []) c) ∙ reverse-append (mine h c) (mine_from (store_after h) (e ∷ []) c)

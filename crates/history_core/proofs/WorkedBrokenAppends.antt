@@ -12,7 +12,8 @@ use Rattle.history_core.specs.WorkedTrail.{did, first_calls}
 use Rattle.history_core.specs.WorkedBroken.{append_unstored, append_out_of_range, append_falling, append_too_many}
 use Rattle.history_core.specs.WorkedBroken.{append_too_heavy, with_part, one_row_to, one_row_state, short_version, few_version}
 use Rattle.history_core.specs.WorkedBroken.{two_rows, two_rows_state, two_rows_version, falling_part, heavy_row, heavy_part}
-use Rattle.history_core.proofs.OneMore.{own_of, last_allowed}
+use Rattle.history_core.specs.Answers.{own_of}
+use Rattle.history_core.proofs.OneMore.{last_allowed}
 use Rattle.history_core.proofs.WorkedParted.{one_part, step_is}
 use Rattle.history_core.proofs.WorkedVersions.{reads4}
 use Rattle.history_core.proofs.WorkedParts.{reads_early, reads_merged}

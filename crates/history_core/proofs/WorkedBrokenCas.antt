@@ -21,7 +21,8 @@ use Rattle.history_core.specs.WorkedTrail.{did, first_calls}
 use Rattle.history_core.specs.WorkedBroken.{cas_unseen, cas_for_another, cas_misapplied, merge_dropping, with_dropped}
 use Rattle.history_core.specs.WorkedBroken.{forgetful_state, forgetful_version, dropping_batch, dropping, dropping_state}
 use Rattle.history_core.specs.WorkedBroken.{dropping_version}
-use Rattle.history_core.proofs.OneMore.{own_of, last_allowed}
+use Rattle.history_core.specs.Answers.{own_of}
+use Rattle.history_core.proofs.OneMore.{last_allowed}
 use Rattle.history_core.proofs.WorkedParted.{one_value, one_part, two_parts, step_is, state_is}
 use Rattle.history_core.proofs.WorkedVersions.{reads2, reads3, reads6, reads7}
 use Rattle.history_core.proofs.WorkedParts.{reads_early, reads_late}

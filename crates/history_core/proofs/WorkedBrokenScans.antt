@@ -16,7 +16,8 @@ use Rattle.history_core.specs.Worked.{step1, step2, step3, step4, step5, step6, 
 use Rattle.history_core.specs.Worked.{version3, version4, version5, version6, version7, version8}
 use Rattle.history_core.specs.WorkedTrail.{did, first_calls}
 use Rattle.history_core.specs.WorkedBroken.{delete_above_floor, delete_untaken, truncate_before_deletes, truncate_past_floor}
-use Rattle.history_core.proofs.OneMore.{own_of, last_allowed}
+use Rattle.history_core.specs.Answers.{own_of}
+use Rattle.history_core.proofs.OneMore.{last_allowed}
 use Rattle.history_core.proofs.WorkedParted.{one_value}
 use Rattle.history_core.proofs.WorkedFacts.{takes_of, takes_late, early_not_late}
 use Rattle.history_core.proofs.WorkedVersions.{reads0, reads1, reads2, reads3, reads4, reads5, reads6, reads7, reads8}

@@ -18,7 +18,7 @@ use Rattle.history_core.specs.Worked.{step1, step2, step3, step4, step5, version
 use Rattle.history_core.specs.WorkedCompacted.{undone_row, undone_part, advancing, advanced_state, advanced_version}
 use Rattle.history_core.specs.WorkedCompacted.{compacting, compacted_state, compacted_version, compacted}
 use Rattle.history_core.proofs.Opened.{opened_versions, opened_parts}
-use Rattle.history_core.proofs.OneMore.{own_of}
+use Rattle.history_core.specs.Answers.{own_of}
 use Rattle.history_core.proofs.WorkedVersions.{reads0, reads1, reads2, reads3, reads4, reads5}
 use Rattle.history_core.proofs.WorkedParts.{reads_early}
 use Rattle.history_core.proofs.WorkedStates.{applies1, applies2, applies3, applies4, applies5, two_keys}

@@ -11,7 +11,8 @@ use Rattle.history_core.specs.Worked.{the_shard, key, early_row, early_part, sta
 use Rattle.history_core.specs.Worked.{version2, version3}
 use Rattle.history_core.specs.WorkedTrail.{did, first_calls}
 use Rattle.history_core.specs.WorkedFailures.{first_append, append_with, append_again, set_after_failure, too_late}
-use Rattle.history_core.proofs.OneMore.{own_of, one_more, last_allowed}
+use Rattle.history_core.specs.Answers.{own_of}
+use Rattle.history_core.proofs.OneMore.{one_more, last_allowed}
 use Rattle.history_core.proofs.WorkedVersions.{reads1, reads2, reads3, reads4}
 use Rattle.history_core.proofs.WorkedParts.{reads_early}
 use Rattle.history_core.proofs.WorkedStates.{applies3, applies4}

@@ -7,7 +7,7 @@ use Rattle.history_core.specs.Worked.{key, early_row, late_row, early_part, late
 use Rattle.history_core.specs.Worked.{step1, step3, step4, step5, version0, version3, version4}
 use Rattle.history_core.specs.WorkedTrail.{worked, first_calls}
 use Rattle.state_core.specs.declared.transitions.Transition.TheVariants.{Init}
-use Rattle.history_core.proofs.OneMore.{own_of}
+use Rattle.history_core.specs.Answers.{own_of}
 use Rattle.history_core.proofs.WorkedVersions.{reads0, reads1, reads3, reads4, reads5}
 use Rattle.history_core.proofs.WorkedParts.{reads_early, reads_late}
 use Rattle.history_core.proofs.WorkedStates.{applies1, applies4, applies5}
