@@ -3,7 +3,6 @@ use Rattle.std.proofs.Common.{◌≡◌, ◌∙◌, ℕ, Bool, true, false, cond
 use Rattle.std.specs.Prelude.{reverse}
 use Rattle.std.proofs.lemmas.Bool.Decides.{nat_tests}
 use Rattle.std.proofs.lemmas.List.{reverse-append}
-use Rattle.store_core.specs.declared.calls.Call.{Call}
 use Rattle.store_core.specs.declared.entries.Entry.{Entry}
 use Rattle.store_core.specs.Histories.{History, store_after, reply, with_entry}
 use Rattle.store_core.specs.Ports.{Answered, answered, mine, mine_from}

@@ -1,10 +1,8 @@
 -- Appends of broken histories that aren't allowed.
-use Rattle.std.proofs.Common.{◌≡◌, ◌∙◌, ℕ, ◌≤◌, List, [], ◌∷◌, length, Option, Some, None, inl, inr, refl, sym, ap, subst, arith}
+use Rattle.std.proofs.Common.{◌≡◌, ◌∙◌, ℕ, ◌≤◌, List, [], ◌∷◌, length, Option, Some, None, inl, inr, sym, ap, subst, arith}
 use Rattle.update_core.specs.declared.updates.Update.{Update}
 use Rattle.update_core.specs.Updates.{between, weight_of}
 use Rattle.store_core.specs.declared.calls.Call.TheVariants.{Cas}
-use Rattle.store_core.specs.Ports.{Answered}
-use Rattle.state_core.specs.declared.transitions.Transition.{Transition}
 use Rattle.history_core.specs.Readings.{rows_in}
 use Rattle.history_core.specs.Discipline.{StoredAs, CasAllowed, AppendHolds, Holds, Lawful}
 use Rattle.history_core.specs.Worked.{the_shard, key, early_row, late_row, early_part, merged_part, state4, step4, version4}

@@ -1,9 +1,9 @@
 -- What the worked history comes to where its first append fails, or a Cas comes too late.
-use Rattle.std.proofs.Common.{◌≡◌, ℕ, Some, [], ◌∷◌, inl, inr, refl, arith}
+use Rattle.std.proofs.Common.{◌≡◌, Some, [], ◌∷◌, inl, inr, refl, arith}
 use Rattle.store_core.specs.declared.calls.Call.TheVariants.{Cas, Set}
-use Rattle.store_core.specs.declared.replies.Reply.TheVariants.{Committed, Mismatch, Failed}
+use Rattle.store_core.specs.declared.replies.Reply.TheVariants.{Committed, Mismatch}
 use Rattle.store_core.specs.declared.outcomes.Outcome.{Outcome}
-use Rattle.store_core.specs.declared.outcomes.Outcome.TheVariants.{Took, FailedTook, FailedLost}
+use Rattle.store_core.specs.declared.outcomes.Outcome.TheVariants.{FailedTook, FailedLost}
 use Rattle.store_core.specs.Histories.{entry_of, reply, store_after}
 use Rattle.history_core.specs.Discipline.{Allows, Lawful}
 use Rattle.history_core.specs.Stands.{accepted_of}

@@ -1,5 +1,5 @@
 -- Each call of the worked history's keeper is allowed by those before it.
-use Rattle.std.proofs.Common.{◌≡◌, ℕ, List, Option, Some, [], ◌∷◌, inl, inr, refl, arith}
+use Rattle.std.proofs.Common.{ℕ, List, [], ◌∷◌, inl, inr, refl}
 use Rattle.std.specs.List.Sorted.{IsStrictlySortedBy}
 use Rattle.update_core.specs.Updates.{IsCons, moved}
 use Rattle.history_core.specs.Discipline.{SetAllowed, OwnLawful}

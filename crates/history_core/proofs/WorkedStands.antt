@@ -1,5 +1,5 @@
 -- What the store stands for after each call of the worked histories, by the law of lawful histories.
-use Rattle.std.proofs.Common.{◌≡◌, ℕ, List, [], ◌∷◌, inl, refl, subst}
+use Rattle.std.proofs.Common.{ℕ, List, [], ◌∷◌, inl, refl, subst}
 use Rattle.update_core.specs.declared.updates.Update.{Update}
 use Rattle.store_core.specs.Histories.{store_after}
 use Rattle.store_core.specs.Stores.{empty_store}

@@ -1,5 +1,5 @@
 -- Each call of the worked history's writer is allowed by those before it.
-use Rattle.std.proofs.Common.{◌≡◌, ℕ, List, Option, Some, [], ◌∷◌, inl, inr, refl, arith}
+use Rattle.std.proofs.Common.{ℕ, List, [], ◌∷◌, inl, inr, refl, arith}
 use Rattle.std.specs.List.Sorted.{IsStrictlySortedBy}
 use Rattle.part_codec.specs.Parts.{Rising}
 use Rattle.history_core.specs.Discipline.{SetAllowed, OwnLawful}
