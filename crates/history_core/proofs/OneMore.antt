@@ -3,16 +3,11 @@ use Rattle.std.proofs.Common.{◌≡◌, ◌∙◌, ℕ, Bool, true, false, cond
 use Rattle.std.specs.Prelude.{reverse}
 use Rattle.std.proofs.lemmas.Bool.Decides.{nat_tests}
 use Rattle.std.proofs.lemmas.List.{reverse-append}
-use Rattle.store_core.specs.declared.calls.Call.{Call}
 use Rattle.store_core.specs.declared.entries.Entry.{Entry}
 use Rattle.store_core.specs.Histories.{History, store_after, reply, with_entry}
 use Rattle.store_core.specs.Ports.{Answered, answered, mine, mine_from}
 use Rattle.store_core.proofs.PortLaws.{mine_from-append}
 use Rattle.history_core.specs.Discipline.{Allows, OwnLawful, Lawful}
-
--- a client's own entries, the newest first
-abbrev pub own_of : History → ℕ → List Answered
-own_of h c = reverse (mine h c)
 
 turned : (h : History) (e : Entry) (c : ℕ) →
     reverse (mine (with_entry h e) c) ≡ reverse (mine_from (store_after h) (e ∷ []) c) ++ reverse (mine h c)

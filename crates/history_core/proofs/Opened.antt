@@ -1,6 +1,7 @@
 -- Words that open the reading of versions and of parts: to name one on an `unfolding` line lets that reading compute.
 use Rattle.std.specs.Prelude.{⊤}
-use Rattle.state_core.specs.VersionReading.{magic_at, form_at, limited_at, frontier_at, time_at, kind_at, below_at, one_at}
+use Rattle.state_core.specs.Versions.{number_bytes}
+use Rattle.state_core.specs.VersionReading.{number_at, magic_at, form_at, limited_at, frontier_at, time_at, kind_at, below_at, one_at}
 use Rattle.state_core.specs.VersionReading.{two_at, join_at}
 use Rattle.state_core.specs.VersionReading.{head_at, all_members_at, member_count_at, members_at, member_at, joined_at}
 use Rattle.state_core.specs.VersionReading.{all_batches_at, batch_count_at, batches_at, batch_at, lower_at, upper_at}
@@ -14,7 +15,7 @@ use Rattle.history_core.specs.Readings.{rows_in}
 
 -- the reading of fields
 unfoldable pub opened_fields : ⊤
-unfolding magic_at form_at limited_at frontier_at time_at kind_at below_at one_at two_at join_at
+unfolding number_bytes number_at magic_at form_at limited_at frontier_at time_at kind_at below_at one_at two_at join_at
 opened_fields = tt
 
 -- the reading of members

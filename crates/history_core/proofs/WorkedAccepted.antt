@@ -1,10 +1,10 @@
 -- What the worked history appends, step by step, and the store that it leaves.
-use Rattle.std.proofs.Common.{◌≡◌, ℕ, Some, None, List, [], ◌∷◌, refl}
+use Rattle.std.proofs.Common.{◌≡◌, Some, None, [], ◌∷◌, refl}
 use Rattle.store_core.specs.Histories.{store_after}
 use Rattle.history_core.specs.Stands.{accepted_of}
 use Rattle.history_core.specs.Worked.{the_shard, key, early_row, late_row, merged_part, version8}
 use Rattle.history_core.specs.WorkedTrail.{worked, first_calls}
-use Rattle.history_core.proofs.WorkedVersions.{reads0, reads1, reads2, reads3, reads4, reads5, reads6, reads7, reads8}
+use Rattle.history_core.proofs.WorkedVersions.{reads1, reads2, reads3, reads4, reads5, reads6, reads7, reads8}
 use Rattle.history_core.proofs.WorkedParts.{reads_early, reads_late}
 
 pub accepted_before : accepted_of the_shard [] (first_calls 8) ≡ []

@@ -1,10 +1,8 @@
 -- Appends of broken histories that aren't allowed.
-use Rattle.std.proofs.Common.{◌≡◌, ◌∙◌, ℕ, ◌≤◌, List, [], ◌∷◌, length, Option, Some, None, inl, inr, refl, sym, ap, subst, arith}
+use Rattle.std.proofs.Common.{◌≡◌, ◌∙◌, ℕ, ◌≤◌, List, [], ◌∷◌, length, Option, Some, None, inl, inr, sym, ap, subst, arith}
 use Rattle.update_core.specs.declared.updates.Update.{Update}
 use Rattle.update_core.specs.Updates.{between, weight_of}
 use Rattle.store_core.specs.declared.calls.Call.TheVariants.{Cas}
-use Rattle.store_core.specs.Ports.{Answered}
-use Rattle.state_core.specs.declared.transitions.Transition.{Transition}
 use Rattle.history_core.specs.Readings.{rows_in}
 use Rattle.history_core.specs.Discipline.{StoredAs, CasAllowed, AppendHolds, Holds, Lawful}
 use Rattle.history_core.specs.Worked.{the_shard, key, early_row, late_row, early_part, merged_part, state4, step4, version4}
@@ -12,7 +10,8 @@ use Rattle.history_core.specs.WorkedTrail.{did, first_calls}
 use Rattle.history_core.specs.WorkedBroken.{append_unstored, append_out_of_range, append_falling, append_too_many}
 use Rattle.history_core.specs.WorkedBroken.{append_too_heavy, with_part, one_row_to, one_row_state, short_version, few_version}
 use Rattle.history_core.specs.WorkedBroken.{two_rows, two_rows_state, two_rows_version, falling_part, heavy_row, heavy_part}
-use Rattle.history_core.proofs.OneMore.{own_of, last_allowed}
+use Rattle.history_core.specs.Answers.{own_of}
+use Rattle.history_core.proofs.OneMore.{last_allowed}
 use Rattle.history_core.proofs.WorkedParted.{one_part, step_is}
 use Rattle.history_core.proofs.WorkedVersions.{reads4}
 use Rattle.history_core.proofs.WorkedParts.{reads_early, reads_merged}

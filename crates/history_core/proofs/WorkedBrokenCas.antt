@@ -1,14 +1,10 @@
 -- Commits of broken histories that aren't allowed: at a version unseen, for another's member, with a state that isn't made, and
 -- a merge that loses a row.
-use Rattle.std.proofs.Common.{◌≡◌, ◌∙◌, ℕ, List, [], ◌∷◌, ◌++◌, length, pos, Option, Some, None, inl, inr, refl, sym, ap, subst}
+use Rattle.std.proofs.Common.{◌≡◌, ◌∙◌, ℕ, List, [], ◌∷◌, length, pos, Option, Some, inl, inr, sym, ap, subst}
 use Rattle.std.proofs.Common.{arith}
-use Rattle.std.specs.Prelude.{map}
 use Rattle.update_core.specs.declared.updates.Update.{Update}
-use Rattle.update_core.specs.Totals.{total}
-use Rattle.update_core.specs.Updates.{IsCons, moved, moment_cmp, moment_entry}
-use Rattle.store_core.specs.declared.part_keys.PartKey.{PartKey}
+use Rattle.update_core.specs.Updates.{IsCons, moved}
 use Rattle.store_core.specs.declared.calls.Call.TheVariants.{Cas}
-use Rattle.store_core.specs.Ports.{Answered}
 use Rattle.state_core.specs.declared.transitions.Transition.{Transition}
 use Rattle.state_core.specs.States.{ShardState}
 use Rattle.state_core.specs.Steps.{Applies, acts_for}
@@ -16,12 +12,13 @@ use Rattle.state_core.specs.VersionReading.{version_in}
 use Rattle.history_core.specs.Discipline.{JoinsAs, GotAs, StoredAs, CasAllowed, MergeHolds, OwnsSome, Holds, Lawful, ShowsState}
 use Rattle.history_core.specs.Worked.{the_shard, key, early_batch, late_batch, early_row, late_row, early_part, late_part}
 use Rattle.history_core.specs.Worked.{state2, state3, state6, state7, step2, step3, step4, step6, step7, version2, version3}
-use Rattle.history_core.specs.Worked.{version6, version7}
+use Rattle.history_core.specs.Worked.{version7}
 use Rattle.history_core.specs.WorkedTrail.{did, first_calls}
 use Rattle.history_core.specs.WorkedBroken.{cas_unseen, cas_for_another, cas_misapplied, merge_dropping, with_dropped}
 use Rattle.history_core.specs.WorkedBroken.{forgetful_state, forgetful_version, dropping_batch, dropping, dropping_state}
 use Rattle.history_core.specs.WorkedBroken.{dropping_version}
-use Rattle.history_core.proofs.OneMore.{own_of, last_allowed}
+use Rattle.history_core.specs.Answers.{own_of}
+use Rattle.history_core.proofs.OneMore.{last_allowed}
 use Rattle.history_core.proofs.WorkedParted.{one_value, one_part, two_parts, step_is, state_is}
 use Rattle.history_core.proofs.WorkedVersions.{reads2, reads3, reads6, reads7}
 use Rattle.history_core.proofs.WorkedParts.{reads_early, reads_late}

@@ -1,22 +1,21 @@
 -- Deletes and Truncates of broken histories that aren't allowed.
-use Rattle.std.proofs.Common.{◌≡◌, ◌∙◌, ℕ, ◌≤◌, ◌<◌, List, [], ◌∷◌, Option, Some, inl, inr, refl, sym, ap, subst, arith}
+use Rattle.std.proofs.Common.{◌≡◌, ℕ, ◌≤◌, ◌<◌, List, [], ◌∷◌, Option, Some, inl, inr, ap, arith}
 use Rattle.store_core.specs.declared.part_keys.PartKey.{PartKey}
 use Rattle.store_core.specs.declared.versions.Version.{Version}
 use Rattle.store_core.specs.declared.calls.Call.TheVariants.{Delete, Truncate}
 use Rattle.store_core.specs.Stores.{numbered}
 use Rattle.state_core.specs.declared.transitions.Transition.{Transition}
 use Rattle.state_core.specs.declared.transitions.Transition.TheVariants.{Init}
-use Rattle.state_core.specs.Lists.{Among}
 use Rattle.state_core.specs.States.{ShardState, floor}
 use Rattle.state_core.specs.Steps.{Takes}
-use Rattle.state_core.specs.VersionReading.{version_in}
-use Rattle.history_core.specs.Discipline.{Allows, TakenUpTo, TakesIn, NewestIs, AllDeleted, IsDeleted, Lawful}
+use Rattle.history_core.specs.Discipline.{TakenUpTo, NewestIs, AllDeleted, Lawful}
 use Rattle.history_core.specs.Worked.{the_shard, key, state0, state1, state2, state3, state4, state5, state6, state7, state8}
 use Rattle.history_core.specs.Worked.{step1, step2, step3, step4, step5, step6, step7, step8, version0, version1, version2}
 use Rattle.history_core.specs.Worked.{version3, version4, version5, version6, version7, version8}
 use Rattle.history_core.specs.WorkedTrail.{did, first_calls}
 use Rattle.history_core.specs.WorkedBroken.{delete_above_floor, delete_untaken, truncate_before_deletes, truncate_past_floor}
-use Rattle.history_core.proofs.OneMore.{own_of, last_allowed}
+use Rattle.history_core.specs.Answers.{own_of}
+use Rattle.history_core.proofs.OneMore.{last_allowed}
 use Rattle.history_core.proofs.WorkedParted.{one_value}
 use Rattle.history_core.proofs.WorkedFacts.{takes_of, takes_late, early_not_late}
 use Rattle.history_core.proofs.WorkedVersions.{reads0, reads1, reads2, reads3, reads4, reads5, reads6, reads7, reads8}

@@ -1,15 +1,13 @@
 -- Calls of broken histories that aren't allowed: Sets, and a first version.
-use Rattle.std.proofs.Common.{◌≡◌, ◌∙◌, ℕ, List, [], ◌∷◌, Option, Some, None, inl, inr, refl, sym, ap, subst, arith}
-use Rattle.std.specs.Prelude.{reverse}
+use Rattle.std.proofs.Common.{◌≡◌, ◌∙◌, ℕ, [], ◌∷◌, Option, Some, None, inl, refl, sym, ap, subst, arith}
 use Rattle.update_core.specs.declared.updates.Update.{Update}
 use Rattle.store_core.specs.declared.calls.Call.TheVariants.{Cas, Set}
-use Rattle.store_core.specs.Ports.{mine}
 use Rattle.state_core.specs.declared.transitions.Transition.{Transition}
 use Rattle.state_core.specs.declared.transitions.Transition.TheVariants.{Init}
 use Rattle.state_core.specs.States.{ShardState}
 use Rattle.state_core.specs.VersionReading.{version_in}
 use Rattle.history_core.specs.Readings.{rows_in}
-use Rattle.history_core.specs.Discipline.{Allows, SpendsIn, Lawful}
+use Rattle.history_core.specs.Discipline.{SpendsIn, Lawful}
 use Rattle.history_core.specs.Worked.{the_shard, key, early_row, late_row, early_part, late_part, state0, version1, version4}
 use Rattle.history_core.specs.WorkedTrail.{did, first_calls}
 use Rattle.history_core.specs.WorkedBroken.{first_not_init, set_other_bytes, set_after_cas}

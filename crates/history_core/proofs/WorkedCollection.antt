@@ -9,7 +9,7 @@ use Rattle.std.specs.declared.cmp.Ordering.TheVariants.{Less, Equal, Greater}
 use Rattle.std.specs.Ordering.{is_eq, nat_cmp, ordering_then}
 use Rattle.update_core.specs.declared.updates.Update.{Update}
 use Rattle.store_core.specs.declared.part_keys.PartKey.{PartKey}
-use Rattle.store_core.specs.Stores.{Stored, Log, shard_cmp, key_cmp}
+use Rattle.store_core.specs.Stores.{Log, shard_cmp, key_cmp}
 use Rattle.store_core.specs.Histories.{store_after}
 use Rattle.state_core.specs.declared.transitions.Transition.{Transition}
 use Rattle.state_core.specs.States.{ShardState, floor, Names, KeyFits}

@@ -1,5 +1,5 @@
 -- The history whose merge comes to nothing is lawful.
-use Rattle.std.proofs.Common.{◌≡◌, ℕ, List, Option, Some, [], ◌∷◌, inl, inr, refl, subst, arith}
+use Rattle.std.proofs.Common.{◌≡◌, List, Some, [], ◌∷◌, inl, inr, refl, subst, arith}
 use Rattle.std.specs.List.Sorted.{IsStrictlySortedBy}
 use Rattle.update_core.specs.declared.updates.Update.{Update}
 use Rattle.update_core.specs.Totals.{consolidated}
@@ -13,12 +13,12 @@ use Rattle.state_core.specs.declared.transitions.Transition.TheVariants.{Init}
 use Rattle.history_core.specs.Readings.{rows_in}
 use Rattle.history_core.specs.Discipline.{OwnLawful, Lawful}
 use Rattle.history_core.specs.Stands.{accepted_of}
-use Rattle.history_core.specs.Worked.{the_shard, key, early_row, early_part, state0, state1, state2, state3, state4, state5}
+use Rattle.history_core.specs.Worked.{the_shard, early_row, early_part, state0, state1, state2, state3, state4, state5}
 use Rattle.history_core.specs.Worked.{step1, step2, step3, step4, step5, version0, version1, version2, version3, version4, version5}
 use Rattle.history_core.specs.WorkedCompacted.{undone_row, undone_part, advancing, advanced_state, advanced_version}
 use Rattle.history_core.specs.WorkedCompacted.{compacting, compacted_state, compacted_version, compacted}
 use Rattle.history_core.proofs.Opened.{opened_versions, opened_parts}
-use Rattle.history_core.proofs.OneMore.{own_of}
+use Rattle.history_core.specs.Answers.{own_of}
 use Rattle.history_core.proofs.WorkedVersions.{reads0, reads1, reads2, reads3, reads4, reads5}
 use Rattle.history_core.proofs.WorkedParts.{reads_early}
 use Rattle.history_core.proofs.WorkedStates.{applies1, applies2, applies3, applies4, applies5, two_keys}

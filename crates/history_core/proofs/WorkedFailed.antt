@@ -1,9 +1,9 @@
 -- What the worked history comes to where its first append fails, or a Cas comes too late.
-use Rattle.std.proofs.Common.{◌≡◌, ℕ, Some, [], ◌∷◌, inl, inr, refl, arith}
+use Rattle.std.proofs.Common.{◌≡◌, Some, [], ◌∷◌, inl, inr, refl, arith}
 use Rattle.store_core.specs.declared.calls.Call.TheVariants.{Cas, Set}
-use Rattle.store_core.specs.declared.replies.Reply.TheVariants.{Committed, Mismatch, Failed}
+use Rattle.store_core.specs.declared.replies.Reply.TheVariants.{Committed, Mismatch}
 use Rattle.store_core.specs.declared.outcomes.Outcome.{Outcome}
-use Rattle.store_core.specs.declared.outcomes.Outcome.TheVariants.{Took, FailedTook, FailedLost}
+use Rattle.store_core.specs.declared.outcomes.Outcome.TheVariants.{FailedTook, FailedLost}
 use Rattle.store_core.specs.Histories.{entry_of, reply, store_after}
 use Rattle.history_core.specs.Discipline.{Allows, Lawful}
 use Rattle.history_core.specs.Stands.{accepted_of}
@@ -11,7 +11,8 @@ use Rattle.history_core.specs.Worked.{the_shard, key, early_row, early_part, sta
 use Rattle.history_core.specs.Worked.{version2, version3}
 use Rattle.history_core.specs.WorkedTrail.{did, first_calls}
 use Rattle.history_core.specs.WorkedFailures.{first_append, append_with, append_again, set_after_failure, too_late}
-use Rattle.history_core.proofs.OneMore.{own_of, one_more, last_allowed}
+use Rattle.history_core.specs.Answers.{own_of}
+use Rattle.history_core.proofs.OneMore.{one_more, last_allowed}
 use Rattle.history_core.proofs.WorkedVersions.{reads1, reads2, reads3, reads4}
 use Rattle.history_core.proofs.WorkedParts.{reads_early}
 use Rattle.history_core.proofs.WorkedStates.{applies3, applies4}

@@ -1,5 +1,5 @@
 -- Each call of the worked history's keeper is allowed by those before it.
-use Rattle.std.proofs.Common.{◌≡◌, ℕ, List, Option, Some, [], ◌∷◌, inl, inr, refl, arith}
+use Rattle.std.proofs.Common.{ℕ, List, [], ◌∷◌, inl, inr, refl}
 use Rattle.std.specs.List.Sorted.{IsStrictlySortedBy}
 use Rattle.update_core.specs.Updates.{IsCons, moved}
 use Rattle.history_core.specs.Discipline.{SetAllowed, OwnLawful}
@@ -7,7 +7,7 @@ use Rattle.history_core.specs.Worked.{key, early_row, late_row, early_part, late
 use Rattle.history_core.specs.Worked.{state6, state7, state8, step1, step2, step5, step6, step7, step8, version1, version5}
 use Rattle.history_core.specs.Worked.{version7}
 use Rattle.history_core.specs.WorkedTrail.{worked, first_calls}
-use Rattle.history_core.proofs.OneMore.{own_of}
+use Rattle.history_core.specs.Answers.{own_of}
 use Rattle.history_core.proofs.WorkedVersions.{reads1, reads2, reads5, reads6, reads7, reads8}
 use Rattle.history_core.proofs.WorkedParts.{reads_early, reads_late, reads_merged}
 use Rattle.history_core.proofs.WorkedStates.{applies2, applies6, applies8}

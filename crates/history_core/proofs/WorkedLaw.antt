@@ -1,11 +1,11 @@
 -- The worked history is lawful, and so is each of its prefixes.
-use Rattle.std.proofs.Common.{◌≡◌, ℕ, zero, suc, ◌+◌, ◌<◌, ◌≤◌, List, [], ◌∷◌, ◌++◌, take, drop, sym, subst, ap, arith}
+use Rattle.std.proofs.Common.{◌≡◌, ℕ, zero, suc, ◌+◌, ◌<◌, List, [], ◌∷◌, drop, sym, subst, arith}
 use Rattle.std.specs.Prelude.{reverse}
 use Rattle.std.specs.List.{AllByRecursion}
 use Rattle.store_core.specs.declared.entries.Entry.{Entry}
 use Rattle.store_core.specs.Stores.{empty_store}
 use Rattle.store_core.specs.Histories.{History}
-use Rattle.store_core.specs.Ports.{Answered, mine, OfOthers, with_entries}
+use Rattle.store_core.specs.Ports.{Answered, mine, OfOthers}
 use Rattle.store_core.proofs.PortLaws.{mine_from-others}
 use Rattle.std.proofs.lemmas.List.{take-append-drop}
 use Rattle.history_core.specs.Discipline.{OwnLawful, Lawful}

@@ -1,11 +1,11 @@
 -- Each call of the worked history's reader, which collects in the end, is allowed by those before it.
-use Rattle.std.proofs.Common.{◌≡◌, ℕ, ◌<◌, List, Option, Some, [], ◌∷◌, inl, inr, refl, arith}
+use Rattle.std.proofs.Common.{inl, inr, refl, arith}
 use Rattle.history_core.specs.Discipline.{OwnLawful}
 use Rattle.history_core.specs.Worked.{state0, state1, state2, state3, state4, state5, state6, state7, state8, step1, step2}
 use Rattle.history_core.specs.Worked.{step3, step4, step5, step6, step7, step8, version2, version6}
 use Rattle.history_core.specs.WorkedTrail.{worked}
 use Rattle.state_core.specs.declared.transitions.Transition.TheVariants.{Init}
-use Rattle.history_core.proofs.OneMore.{own_of}
+use Rattle.history_core.specs.Answers.{own_of}
 use Rattle.history_core.proofs.WorkedVersions.{reads0, reads1, reads2, reads3, reads4, reads5, reads6, reads7, reads8}
 use Rattle.history_core.proofs.WorkedStates.{applies3, applies7}
 use Rattle.history_core.proofs.WorkedFacts.{takes_of, joins2, takes_early, takes_late}

@@ -1,6 +1,5 @@
 -- Each worked state keeps the rules, and each transition applies to the state before.
-use Rattle.std.proofs.Common.{◌≡◌, ℕ, [], ◌∷◌, inl, inr, refl, arith, ap}
-use Rattle.std.specs.Prelude.{sum_by}
+use Rattle.std.proofs.Common.{◌≡◌, ℕ, [], inl, inr, refl, arith, ap}
 use Rattle.store_core.specs.declared.part_keys.PartKey.{PartKey}
 use Rattle.state_core.specs.States.{IsState}
 use Rattle.state_core.specs.Steps.{Applies}

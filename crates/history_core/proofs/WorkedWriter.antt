@@ -1,5 +1,5 @@
 -- Each call of the worked history's writer is allowed by those before it.
-use Rattle.std.proofs.Common.{◌≡◌, ℕ, List, Option, Some, [], ◌∷◌, inl, inr, refl, arith}
+use Rattle.std.proofs.Common.{ℕ, List, [], ◌∷◌, inl, inr, refl, arith}
 use Rattle.std.specs.List.Sorted.{IsStrictlySortedBy}
 use Rattle.part_codec.specs.Parts.{Rising}
 use Rattle.history_core.specs.Discipline.{SetAllowed, OwnLawful}
@@ -7,7 +7,7 @@ use Rattle.history_core.specs.Worked.{key, early_row, late_row, early_part, late
 use Rattle.history_core.specs.Worked.{step1, step3, step4, step5, version0, version3, version4}
 use Rattle.history_core.specs.WorkedTrail.{worked, first_calls}
 use Rattle.state_core.specs.declared.transitions.Transition.TheVariants.{Init}
-use Rattle.history_core.proofs.OneMore.{own_of}
+use Rattle.history_core.specs.Answers.{own_of}
 use Rattle.history_core.proofs.WorkedVersions.{reads0, reads1, reads3, reads4, reads5}
 use Rattle.history_core.proofs.WorkedParts.{reads_early, reads_late}
 use Rattle.history_core.proofs.WorkedStates.{applies1, applies4, applies5}

@@ -1,6 +1,6 @@
 -- A worked history over one shard: a writer, a keeper and a reader join; two appends; a merge; the reader leaves; the keeper
 -- renews its hold; the merged parts are collected.
-use Rattle.std.specs.Prelude.{ℕ, ◌+◌, pos, List, [], ◌∷◌, Option, Some, None, take, drop}
+use Rattle.std.specs.Prelude.{ℕ, pos, List, [], ◌∷◌, Some}
 use Rattle.update_core.specs.declared.updates.Update.{Update}
 use Rattle.store_core.specs.declared.shards.ShardId.{ShardId}
 use Rattle.store_core.specs.declared.part_keys.PartKey.{PartKey}

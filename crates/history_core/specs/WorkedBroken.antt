@@ -1,8 +1,6 @@
 -- Histories that break the discipline with their last call, each another rule of it.
 use Rattle.std.specs.Prelude.{ℕ, pos, List, [], ◌∷◌, Some, None}
 use Rattle.update_core.specs.declared.updates.Update.{Update}
-use Rattle.store_core.specs.declared.part_keys.PartKey.{PartKey}
-use Rattle.store_core.specs.declared.calls.Call.{Call}
 use Rattle.store_core.specs.declared.calls.Call.TheVariants.{Cas, Truncate, Set, Delete}
 use Rattle.store_core.specs.Histories.{History, with_entry}
 use Rattle.spine_core.specs.declared.batches.Batch.{Batch}
@@ -12,9 +10,9 @@ use Rattle.state_core.specs.declared.transitions.Transition.TheVariants.{Append,
 use Rattle.state_core.specs.States.{ShardState}
 use Rattle.state_core.specs.Versions.{version_spelling}
 use Rattle.history_core.specs.Worked.{the_shard, key, writer, keeper, reader, batch, early_batch, late_batch, early_row}
-use Rattle.history_core.specs.Worked.{late_row, early_part, late_part, merged_part, state3, state4, state5, step4, version1}
+use Rattle.history_core.specs.Worked.{late_row, early_part, late_part, merged_part, state4, state5, step4, version1}
 use Rattle.history_core.specs.Worked.{version2, version4, version7}
-use Rattle.history_core.specs.WorkedTrail.{did, first_calls, first_calls_and}
+use Rattle.history_core.specs.WorkedTrail.{did, first_calls_and}
 
 -- ---- calls that aren't allowed after so many calls of the worked history
 

@@ -12,7 +12,7 @@ use Rattle.state_core.specs.declared.transitions.Transition.{Transition}
 use Rattle.state_core.specs.declared.transitions.Transition.TheVariants.{Advance, Merge}
 use Rattle.state_core.specs.States.{ShardState}
 use Rattle.state_core.specs.Versions.{version_spelling}
-use Rattle.history_core.specs.Worked.{the_shard, key, writer, keeper, reader, early_batch, late_batch, early_row, early_part}
+use Rattle.history_core.specs.Worked.{the_shard, key, writer, keeper, reader, early_batch, late_batch, early_part}
 use Rattle.history_core.specs.Worked.{state5}
 use Rattle.history_core.specs.Worked.{version0, version1, version2, version3, version4, version5}
 use Rattle.history_core.specs.WorkedTrail.{did}

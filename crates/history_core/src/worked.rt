@@ -61,8 +61,10 @@ pub fn worked_collects()
     ensures merged { (store_after worked).blobs (key 1 1) ≡ Some merged_part }
 {}
 
-/// The store that the worked history leaves stands for both rows, and not for the first alone.
+/// After each call of the worked history the store stands for the rows appended by then: in the end for both, and not for the
+/// first alone.
 pub fn worked_stands_for()
+    ensures after_each { (n : ℕ) → StandsFor (store_after (first_calls n)) the_shard (accepted_of the_shard [] (first_calls n)) }
     ensures both { StandsFor (store_after worked) the_shard (early_row ∷ late_row ∷ []) }
     ensures no_less { StandsFor (store_after worked) the_shard (early_row ∷ []) → ⊥ }
 {}
@@ -90,6 +92,7 @@ pub fn worked_too_late()
 pub fn worked_compaction()
     ensures lawful { Lawful compacted }
     ensures accepted { accepted_of the_shard [] compacted ≡ early_row ∷ undone_row ∷ [] }
+    ensures stands { StandsFor (store_after compacted) the_shard (early_row ∷ undone_row ∷ []) }
 {}
 
 /// Each broken history is lawful before its last call: it is a prefix of the worked history there, or one with another Set.
@@ -121,8 +124,7 @@ pub fn broken_commits()
 {}
 
 /// Appends that aren't allowed: of a part never stored, of rows out of the range, of bytes that are no part since their rows
-/// fall, of more rows than the
-/// append says, and of more weight.
+/// fall, of more rows than the append says, and of more weight.
 pub fn broken_appends()
     ensures unstored { Lawful append_unstored → ⊥ }
     ensures out_of_range { Lawful append_out_of_range → ⊥ }
