@@ -163,10 +163,6 @@ other_name line word rest cut lacks no_snapshot no_listen no_since = λ command 
     let same = (cut_once word n.0 rest (decimal n.1) lacks n.4 (sym cut ∙ n.3)).0 in
     ⊎_elim (λ (x : n.0 ≡ codes "snapshot"). no_snapshot (same ∙ x)) (λ (y : (n.0 ≡ codes "listen") ⊎ (n.0 ≡ codes "since")). ⊎_elim (λ (x : n.0 ≡ codes "listen"). no_listen (same ∙ x)) (λ (x : n.0 ≡ codes "since"). no_since (same ∙ x)) y) n.5
 
--- the line of a word and a time
-pub name_line : (line word rest name : List ℕ) (t : ℕ) → line ≡ word ++ 32 ∷ rest → rest ≡ decimal t → word ≡ name → (name ++ 32 ∷ decimal t) ∷ [] ≡ line ∷ []
-name_line line word rest name t cut time is = ap (λ l. l ∷ []) (ap (λ w. w ++ 32 ∷ decimal t) (sym is) ∙ ap (λ r. word ++ 32 ∷ r) (sym time) ∙ sym cut)
-
 not_true : (b : Bool) → not b ≡ true → b ≡ false
 not_true true h = cc
 not_true false h = refl

@@ -34,14 +34,6 @@ pub other_line_refused : (commands : List FeedLine) (number : ℕ) (line : List 
 other_line_refused commands number line taken head none begins =
     no_command commands line taken.each head none (subst (λ (ls : List (List ℕ)). Begins (ls ++ line ∷ [])) (closed_lines commands) begins)
 
--- the one line of a command
-pub line_taken : (commands now : List FeedLine) (command : FeedLine) (line : List ℕ) → command_lines command ≡ line ∷ [] → now ≡ commands ++ command ∷ []
-    → taken_lines now None ≡ taken_lines commands None ++ line ∷ []
-line_taken commands now command line is after =
-    closed_lines now ∙ ap feed_lines after ∙ flat_map-append command_lines commands (command ∷ [])
-    ∙ ap (λ ls. feed_lines commands ++ ls) (append-nil (command_lines command) ∙ is)
-    ∙ ap (λ ls. ls ++ line ∷ []) (sym (closed_lines commands))
-
 -- the dot makes a command of the block
 pub dot_taken : (commands now : List FeedLine) (a : FeedAppend) (line : List ℕ) → line ≡ dot_line → now ≡ commands ++ Append a ∷ []
     → taken_lines now None ≡ taken_lines commands (Some a) ++ line ∷ []
