@@ -22,7 +22,7 @@ pub enum RunReply {
     },
     /// The content at the time asked for.
     Rows(RowList),
-    /// The time, or the frontier listened from, is too early for the collection's since.
+    /// The time is before the collection's since, or the frontier listened from isn't past it.
     Early {
         since: u64,
     },

@@ -125,8 +125,8 @@ impl PlainCollection {
         Ok(RunReply::Rows(sum_at(alloc, &self.updates, t)?))
     }
 
-    /// The updates from a frontier up to the upper, where there are any to come yet and the since isn't past. It fails only
-    /// for want of memory.
+    /// The updates from a frontier up to the upper; early where the since is from the frontier on, ended where both are
+    /// Closed, quiet where the upper isn't past the frontier. It fails only for want of memory.
     pub fn listen(&self, alloc: Global, from: Frontier) -> Result<RunReply, AllocError>
         ensures { IfOk result (λ reply. reply ≡ listen_text (listen_answer self.now from)) }
     {
@@ -146,7 +146,7 @@ impl PlainCollection {
         })
     }
 
-    /// Moves the since, where the new one isn't below. The one reader is the caller's.
+    /// Moves the since to this time, where that isn't below it. It is the since of the one reader, the caller's.
     pub fn advance(&mut self, to: u64) -> RunReply
         ensures reply { result ≡ since_reply self.old.since to }
         ensures after { self.new ≡ collection_since self.old to }

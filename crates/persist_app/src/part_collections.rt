@@ -197,8 +197,9 @@ impl PartCollection {
         Ok(RunReply::Rows(content))
     }
 
-    /// The updates from a frontier up to the upper, where there are any to come yet and the since isn't past. It reads the
-    /// parts of the appends whose upper is past the frontier, and no other.
+    /// The updates from a frontier up to the upper; early where the since is from the frontier on, ended where both are
+    /// Closed, quiet where the upper isn't past the frontier. It reads the parts of the appends whose upper is past the
+    /// frontier, and no other.
     pub fn listen<S: Store>(
         &self,
         alloc: Global,
@@ -226,7 +227,7 @@ impl PartCollection {
         })
     }
 
-    /// Moves the since, where the new one isn't below. The one reader is the caller's.
+    /// Moves the since to this time, where that isn't below it. It is the since of the one reader, the caller's.
     pub fn advance(&mut self, to: u64) -> RunReply
         ensures reply { result ≡ since_reply self.old.since to }
         ensures kept { self.new ≡ kept_since self.old to }
