@@ -36,6 +36,7 @@ snapshot_text (content rows) = replies.Rows rows
 snapshot_text (early since) = replies.Early since
 snapshot_text (late upper) = replies.Late upper
 
+-- what it answers to a listen, as a reply
 abbrev pub listen_text : ListenAnswer → RunReply
 listen_text (behind since) = replies.Early since
 listen_text ended = replies.Ended
@@ -71,6 +72,7 @@ least_of since (reader ∷ readers) = min reader (least_of since readers)
 abbrev pub with_own : View → ℕ → View
 with_own view to = record { collection = record view.collection { since = least_of to view.readers }; own = to; readers = view.readers }
 
+-- The view after a new since of the own reader; one that is below changes nothing.
 abbrev pub view_since : View → ℕ → View
 view_since view to = if nat_le view.own to then with_own view to else view
 
