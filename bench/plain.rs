@@ -15,6 +15,8 @@ struct Row<'a> {
 enum Command<'a> {
     Append { lower: u64, upper: Option<u64>, rows: Vec<Row<'a>> },
     Snapshot { t: u64 },
+    Listen { t: u64 },
+    Since { to: u64 },
 }
 
 fn number(word: &[u8]) -> Option<u64> {
@@ -58,7 +60,14 @@ fn head(line: &[u8]) -> Option<Command<'_>> {
         let (lower, upper) = cut(rest)?;
         return Some(Command::Append { lower: number(lower)?, upper: frontier(upper)?, rows: Vec::new() });
     }
-    Some(Command::Snapshot { t: number(line.strip_prefix(b"snapshot ")?)? })
+    let (word, time) = cut(line)?;
+    let time = number(time)?;
+    match word {
+        b"snapshot" => Some(Command::Snapshot { t: time }),
+        b"listen" => Some(Command::Listen { t: time }),
+        b"since" => Some(Command::Since { to: time }),
+        _ => None,
+    }
 }
 
 // The commands, or the first line at fault.
@@ -88,11 +97,11 @@ fn parse(text: &[u8]) -> Result<Vec<Command<'_>>, usize> {
             }
             _ if commands.len() >= MAX_COMMANDS => return Err(number),
             _ => match head(line).ok_or(number)? {
-                Command::Snapshot { t } => {
-                    commands.push(Command::Snapshot { t });
+                append @ Command::Append { .. } => Some(append),
+                other => {
+                    commands.push(other);
                     None
                 }
-                append => Some(append),
             },
         };
     }
@@ -109,6 +118,7 @@ fn shown(frontier: Option<u64>) -> String {
 
 fn execute(commands: Vec<Command<'_>>, out: &mut impl Write) -> io::Result<()> {
     let mut accepted: Vec<(Vec<u8>, u64, i64)> = Vec::new();
+    let mut since = 0;
     let mut upper = Some(0);
     let mut weight = 0u128;
     for command in commands {
@@ -141,7 +151,44 @@ fn execute(commands: Vec<Command<'_>>, out: &mut impl Write) -> io::Result<()> {
                     writeln!(out, "ok")?;
                 }
             }
+            Command::Since { to } => {
+                if to < since {
+                    writeln!(out, "back {since}")?;
+                } else {
+                    since = to;
+                    writeln!(out, "ok")?;
+                }
+            }
+            Command::Listen { t } => {
+                let Some(from) = t.checked_add(1) else {
+                    match upper {
+                        None => writeln!(out, "ended")?,
+                        Some(upper) => writeln!(out, "quiet {upper}")?,
+                    }
+                    continue;
+                };
+                if from <= since {
+                    writeln!(out, "early {since}")?;
+                    continue;
+                }
+                if !covers(upper, from) {
+                    writeln!(out, "quiet {}", shown(upper))?;
+                    continue;
+                }
+                let mut step: Vec<_> = accepted.iter().filter(|row| row.1 >= from).collect();
+                step.sort_by(|a, b| (a.1, &a.0).cmp(&(b.1, &b.0)));
+                for (datum, time, diff) in step {
+                    write!(out, "{time} {diff} ")?;
+                    out.write_all(datum)?;
+                    out.write_all(b"\n")?;
+                }
+                writeln!(out, "upto {}", shown(upper))?;
+            }
             Command::Snapshot { t } => {
+                if t < since {
+                    writeln!(out, "early {since}")?;
+                    continue;
+                }
                 if !covers(upper, t) {
                     writeln!(out, "late {}", shown(upper))?;
                     continue;

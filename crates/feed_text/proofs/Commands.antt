@@ -3,9 +3,9 @@ use Rattle.std.proofs.Common.{◌≡◌, ℕ, List, [], ◌∷◌, ◌++◌, map
 use Rattle.std.specs.List.{AllByRecursion}
 use Rattle.update_core.specs.declared.updates.Update.{Update}
 use Rattle.feed_text.specs.declared.feed_lines.FeedLine.{FeedLine}
-use Rattle.feed_text.specs.declared.feed_lines.FeedLine.TheVariants.{Append, Snapshot}
+use Rattle.feed_text.specs.declared.feed_lines.FeedLine.TheVariants.{Append, Snapshot, Listen, Since}
 use Rattle.feed_text.specs.Grammar.{row_line, dot_line, command_lines, feed_lines, IsRow, IsCommand}
-use Rattle.feed_text.proofs.Rows.{row_one, append_one, snapshot_one, append_no_snapshot, row_no_dot}
+use Rattle.feed_text.proofs.Rows.{row_one, append_one, snapshot_one, listen_one, since_one, append_no_snapshot, append_no_listen, append_no_since, listen_no_snapshot, listen_no_since, since_no_snapshot, row_no_dot}
 
 -- rows up to a dot are the same rows, and so is what comes after it
 pub block_one : (us vs : List Update) (xs ys : List (List ℕ)) → AllByRecursion IsRow us → AllByRecursion IsRow vs
@@ -28,8 +28,20 @@ command_one (Append a) (Append b) xs ys hc hd e =
     tails : {x y : List ℕ} {xs ys : List (List ℕ)} → x ∷ xs ≡ y ∷ ys → xs ≡ ys
     tails e = cc
 command_one (Append a) (Snapshot t) xs ys hc hd e = absurd (append_no_snapshot a.lower a.upper t cc)
+command_one (Append a) (Listen t) xs ys hc hd e = absurd (append_no_listen a.lower a.upper t cc)
+command_one (Append a) (Since t) xs ys hc hd e = absurd (append_no_since a.lower a.upper t cc)
 command_one (Snapshot t) (Append b) xs ys hc hd e = absurd (append_no_snapshot b.lower b.upper t cc)
 command_one (Snapshot s) (Snapshot t) xs ys hc hd e = (ap Snapshot (snapshot_one s t hc hd cc), cc)
+command_one (Snapshot s) (Listen t) xs ys hc hd e = absurd (listen_no_snapshot t s cc)
+command_one (Snapshot s) (Since t) xs ys hc hd e = absurd (since_no_snapshot t s cc)
+command_one (Listen t) (Append b) xs ys hc hd e = absurd (append_no_listen b.lower b.upper t cc)
+command_one (Listen s) (Snapshot t) xs ys hc hd e = absurd (listen_no_snapshot s t cc)
+command_one (Listen s) (Listen t) xs ys hc hd e = (ap Listen (listen_one s t hc hd cc), cc)
+command_one (Listen s) (Since t) xs ys hc hd e = absurd (listen_no_since s t cc)
+command_one (Since t) (Append b) xs ys hc hd e = absurd (append_no_since b.lower b.upper t cc)
+command_one (Since s) (Snapshot t) xs ys hc hd e = absurd (since_no_snapshot s t cc)
+command_one (Since s) (Listen t) xs ys hc hd e = absurd (listen_no_since t s cc)
+command_one (Since s) (Since t) xs ys hc hd e = (ap Since (since_one s t hc hd cc), cc)
 
 -- a feed whose lines begin with those of some commands begins with these commands
 pub commands_one : (cs fs : List FeedLine) (ys : List (List ℕ)) → AllByRecursion IsCommand cs → AllByRecursion IsCommand fs → feed_lines cs ++ ys ≡ feed_lines fs
@@ -40,6 +52,8 @@ commands_one (c ∷ cs) [] ys hc hf e = absurd (some c (feed_lines cs ++ ys) (sy
     some : (c : FeedLine) (xs : List (List ℕ)) → command_lines c ++ xs ≡ [] → ⊥
     some (Append a) xs e = cc
     some (Snapshot t) xs e = cc
+    some (Listen t) xs e = cc
+    some (Since t) xs e = cc
 commands_one (c ∷ cs) (f ∷ fs) ys hc hf e =
     let first = command_one c f (feed_lines cs ++ ys) (feed_lines fs) hc.0 hf.0 (sym (append_assoc (command_lines c) (feed_lines cs) ys) ∙ e) in
     let rest = commands_one cs fs ys hc.1 hf.1 first.1 in
@@ -55,3 +69,5 @@ feeds_one fs gs hf hg e =
     none [] e is = sym (is ∙ append-nil fs)
     none (Append a ∷ rest) e is = cc
     none (Snapshot t ∷ rest) e is = cc
+    none (Listen t ∷ rest) e is = cc
+    none (Since t ∷ rest) e is = cc

@@ -5,10 +5,12 @@ use Rattle.std.specs.List.{AllByRecursion}
 use Rattle.std.specs.Int.Signed.{mag}
 use Rattle.update_core.specs.declared.updates.Update.{Update}
 use Rattle.feed_text.specs.declared.feed_lines.FeedLine.{FeedLine}
-use Rattle.feed_text.specs.declared.feed_lines.FeedLine.TheVariants.{Append, Snapshot}
+use Rattle.feed_text.specs.declared.feed_lines.FeedLine.TheVariants.{Append, Snapshot, Listen, Since}
 use Rattle.feed_text.specs.Lines.{lines_of}
 use Rattle.feed_text.specs.Grammar.{feed_lines, IsRow, Spells, IsFirstFault}
 use Rattle.feed_text.specs.Reading.{block_lines}
+use Rattle.feed_text.specs.Replies.{reply_text}
+use Rattle.feed_text.specs.declared.replies.RunReply.TheVariants.{Step}
 use Rattle.feed_text.proofs.Rows.{row_starts}
 use Rattle.feed_text.proofs.Spelling.{no_row, begins_open}
 use Rattle.feed_text.proofs.TextLines.{lines_read_whole}
@@ -93,3 +95,11 @@ cut_short_fault =
 
 pub nothing_spells : Spells [] []
 nothing_spells = record { feed = record { few = omega arith; each = tt }; lines = refl; few = omega arith }
+
+following_lines : lines_of (codes "listen 3\nsince 4\n") ≡ feed_lines (Listen 3 ∷ Since 4 ∷ [])
+unfolding digits
+following_lines = refl
+
+fruit_step : reply_text (Step fruit (Some 10)) ≡ codes "3 1 apple\n4 1 pear\n7 -1 apple\nupto 10\n"
+unfolding digits
+fruit_step = refl

@@ -1,10 +1,12 @@
 -- The words of a row, and of the lines that begin a command: a line is cut into them in one way.
-use Rattle.std.proofs.Common.{◌≡◌, ◌≢◌, ℕ, ℤ, ◌^◌, ◌<◌, ◌≤◌, ◌⊎◌, ⊎_elim, Bool, true, false, cond, eqb, Option, IfSome, List, [], ◌∷◌, ◌++◌, length, refl, sym, ap, subst, ◌∙◌, arith}
+use Rattle.std.proofs.Common.{◌≡◌, ◌≢◌, ℕ, ℤ, ◌^◌, ◌<◌, ◌≤◌, ◌⊎◌, inl, inr, ⊎_elim, Bool, true, false, cond, eqb, Option, IfSome, List, [], ◌∷◌, ◌++◌, length, map, refl, sym, ap, subst, ◌∙◌, arith}
 use Rattle.std.specs.Int.{w64}
 use Rattle.std.specs.Prelude.{FitsSigned, codes}
 use Rattle.std.specs.Fmt.{decimal, signed_decimal}
 use Rattle.update_core.specs.declared.updates.Update.{Update}
-use Rattle.feed_text.specs.Grammar.{append_line, frontier_text, row_line, snapshot_line, IsRow}
+use Rattle.feed_text.specs.declared.feed_lines.FeedLine.{FeedLine}
+use Rattle.feed_text.specs.declared.feed_lines.FeedLine.TheVariants.{Append, Snapshot, Listen, Since}
+use Rattle.feed_text.specs.Grammar.{append_line, command_lines, dot_line, frontier_text, row_line, IsCommand, IsNoCommand, IsRow}
 use Rattle.feed_text.proofs.Cuts.{Lacks, no_cut, lacks_end}
 use Rattle.feed_text.proofs.Spelled.{NoNumber}
 use Rattle.feed_text.proofs.Words.{cut_once, decimal_spaceless, signed_spaceless}
@@ -84,6 +86,14 @@ snapshot_lacks : Lacks 32 (codes "snapshot")
 unfolding without
 snapshot_lacks = lacks_test 32 (codes "snapshot") refl
 
+listen_lacks : Lacks 32 (codes "listen")
+unfolding without
+listen_lacks = lacks_test 32 (codes "listen") refl
+
+since_lacks : Lacks 32 (codes "since")
+unfolding without
+since_lacks = lacks_test 32 (codes "since") refl
+
 -- a line that begins no append
 abbrev pub NoHead : List ℕ → Type 0
 NoHead line = (l : ℕ) (u : Option ℕ) → l < 2 ^ 64 → IfSome u (λ t. t < 2 ^ 64) → line ≡ append_line l u → ⊥
@@ -111,18 +121,47 @@ pub bad_upper : (line word rest lower upper : List ℕ) → line ≡ word ++ 32 
 bad_upper line word rest lower upper cut lacks cut_again lacks_again bad = λ l u low small is.
     bad u small ((cut_once lower (decimal l) upper (frontier_text u) lacks_again (decimal_spaceless l low) (sym cut_again ∙ head_rest line word rest l u cut lacks is)).1)
 
--- a line that asks for no content
-abbrev pub NoSnapshot : List ℕ → Type 0
-NoSnapshot line = (t : ℕ) → t < 2 ^ 64 → line ≡ snapshot_line t → ⊥
+-- a word and a time, as the one line of a command has them
+abbrev pub IsNamed : List ℕ → Type 0
+IsNamed line = (name : List ℕ) × (t : ℕ) × (t < 2 ^ 64) × (line ≡ name ++ 32 ∷ decimal t) × Lacks 32 name × ((name ≡ codes "snapshot") ⊎ ((name ≡ codes "listen") ⊎ (name ≡ codes "since")))
 
-pub snapshot_uncut : (line : List ℕ) → Lacks 32 line → NoSnapshot line
-snapshot_uncut line lacks = λ t small is. no_cut 32 line (codes "snapshot") (decimal t) lacks is
+named : (command : FeedLine) (line : List ℕ) → IsCommand command → command_lines command ≡ line ∷ [] → IsNamed line
+named (Append a) line is e = absurd (longer a.rows (tails e))
+  where
+    tails : {x y : List ℕ} {xs ys : List (List ℕ)} → x ∷ xs ≡ y ∷ ys → xs ≡ ys
+    tails e = cc
 
-pub other_snapshot : (line word rest : List ℕ) → line ≡ word ++ 32 ∷ rest → Lacks 32 word → word ≢ codes "snapshot" → NoSnapshot line
-other_snapshot line word rest cut lacks apart = λ t small is. apart ((cut_once word (codes "snapshot") rest (decimal t) lacks snapshot_lacks (sym cut ∙ is)).0)
+    longer : (us : List Update) → map row_line us ++ dot_line ∷ [] ≡ [] → ⊥
+    longer [] e = cc
+    longer (u ∷ us) e = cc
+named (Snapshot t) line is e = (codes "snapshot", t, is, only e, snapshot_lacks, inl refl)
+  where
+    only : {x y : List ℕ} → x ∷ [] ≡ y ∷ [] → y ≡ x
+    only e = cc
+named (Listen t) line is e = (codes "listen", t, is, only e, listen_lacks, inr (inl refl))
+  where
+    only : {x y : List ℕ} → x ∷ [] ≡ y ∷ [] → y ≡ x
+    only e = cc
+named (Since t) line is e = (codes "since", t, is, only e, since_lacks, inr (inr refl))
+  where
+    only : {x y : List ℕ} → x ∷ [] ≡ y ∷ [] → y ≡ x
+    only e = cc
 
-pub bad_snapshot_time : (line word rest : List ℕ) → line ≡ word ++ 32 ∷ rest → Lacks 32 word → NoNumber rest → NoSnapshot line
-bad_snapshot_time line word rest cut lacks bad = λ t small is. bad t small ((cut_once word (codes "snapshot") rest (decimal t) lacks snapshot_lacks (sym cut ∙ is)).1)
+pub command_uncut : (line : List ℕ) → Lacks 32 line → IsNoCommand line
+command_uncut line lacks = λ command is e.
+    let n = named command line is e in
+    no_cut 32 line n.0 (decimal n.1) lacks n.3
+
+pub bad_command_time : (line word rest : List ℕ) → line ≡ word ++ 32 ∷ rest → Lacks 32 word → NoNumber rest → IsNoCommand line
+bad_command_time line word rest cut lacks bad = λ command is e.
+    let n = named command line is e in
+    bad n.1 n.2 ((cut_once word n.0 rest (decimal n.1) lacks n.4 (sym cut ∙ n.3)).1)
+
+pub other_name : (line word rest : List ℕ) → line ≡ word ++ 32 ∷ rest → Lacks 32 word → word ≢ codes "snapshot" → word ≢ codes "listen" → word ≢ codes "since" → IsNoCommand line
+other_name line word rest cut lacks no_snapshot no_listen no_since = λ command is e.
+    let n = named command line is e in
+    let same = (cut_once word n.0 rest (decimal n.1) lacks n.4 (sym cut ∙ n.3)).0 in
+    ⊎_elim (λ (x : n.0 ≡ codes "snapshot"). no_snapshot (same ∙ x)) (λ (y : (n.0 ≡ codes "listen") ⊎ (n.0 ≡ codes "since")). ⊎_elim (λ (x : n.0 ≡ codes "listen"). no_listen (same ∙ x)) (λ (x : n.0 ≡ codes "since"). no_since (same ∙ x)) y) n.5
 
 not_true : (b : Bool) → not b ≡ true → b ≡ false
 not_true true h = cc

@@ -4,7 +4,7 @@ use Rattle.std.specs.Fmt.{decimal, signed_decimal}
 use Rattle.std.specs.Int.{IsInRange}
 use Rattle.std.proofs.lemmas.Fmt.{decimal_injective}
 use Rattle.update_core.specs.declared.updates.Update.{Update}
-use Rattle.feed_text.specs.Grammar.{append_line, snapshot_line, row_line, dot_line, frontier_text, IsRow}
+use Rattle.feed_text.specs.Grammar.{append_line, snapshot_line, listen_line, since_line, row_line, dot_line, frontier_text, IsRow}
 use Rattle.feed_text.proofs.Words.{decimal_spaceless, signed_spaceless, first_digit, signed_one, frontier_one, cut_once}
 
 pub row_one : (u v : Update) → IsRow u → IsRow v → row_line u ≡ row_line v → u ≡ v
@@ -26,14 +26,59 @@ append_one l m u v hl hm hu hv e =
 pub snapshot_one : (s t : ℕ) → s < 2 ^ 64 → t < 2 ^ 64 → snapshot_line s ≡ snapshot_line t → s ≡ t
 snapshot_one s t hs ht e = decimal_injective s t hs ht cc
 
+pub listen_one : (s t : ℕ) → s < 2 ^ 64 → t < 2 ^ 64 → listen_line s ≡ listen_line t → s ≡ t
+listen_one s t hs ht e = decimal_injective s t hs ht cc
+
+pub since_one : (s t : ℕ) → s < 2 ^ 64 → t < 2 ^ 64 → since_line s ≡ since_line t → s ≡ t
+since_one s t hs ht e = decimal_injective s t hs ht cc
+
+heads : {b c : ℕ} {bs cs : List ℕ} → b ∷ bs ≡ c ∷ cs → b ≡ c
+heads e = cc
+
+tails : {b c : ℕ} {bs cs : List ℕ} → b ∷ bs ≡ c ∷ cs → bs ≡ cs
+tails e = cc
+
 pub append_no_snapshot : (l : ℕ) (u : Option ℕ) (t : ℕ) → append_line l u ≡ snapshot_line t → ⊥
 append_no_snapshot l u t e =
     apart 97 115 refl refl (heads e)
   where
-    heads : {b c : ℕ} {bs cs : List ℕ} → b ∷ bs ≡ c ∷ cs → b ≡ c
-    heads e = cc
-
     apart : (b c : ℕ) → b ≡ 97 → c ≡ 115 → b ≡ c → ⊥
+    apart b c p q r = omega arith
+
+pub append_no_listen : (l : ℕ) (u : Option ℕ) (t : ℕ) → append_line l u ≡ listen_line t → ⊥
+append_no_listen l u t e =
+    apart 97 108 refl refl (heads e)
+  where
+    apart : (b c : ℕ) → b ≡ 97 → c ≡ 108 → b ≡ c → ⊥
+    apart b c p q r = omega arith
+
+pub append_no_since : (l : ℕ) (u : Option ℕ) (t : ℕ) → append_line l u ≡ since_line t → ⊥
+append_no_since l u t e =
+    apart 97 115 refl refl (heads e)
+  where
+    apart : (b c : ℕ) → b ≡ 97 → c ≡ 115 → b ≡ c → ⊥
+    apart b c p q r = omega arith
+
+pub listen_no_snapshot : (s t : ℕ) → listen_line s ≡ snapshot_line t → ⊥
+listen_no_snapshot s t e =
+    apart 108 115 refl refl (heads e)
+  where
+    apart : (b c : ℕ) → b ≡ 108 → c ≡ 115 → b ≡ c → ⊥
+    apart b c p q r = omega arith
+
+pub listen_no_since : (s t : ℕ) → listen_line s ≡ since_line t → ⊥
+listen_no_since s t e =
+    apart 108 115 refl refl (heads e)
+  where
+    apart : (b c : ℕ) → b ≡ 108 → c ≡ 115 → b ≡ c → ⊥
+    apart b c p q r = omega arith
+
+-- they differ in the second letter
+pub since_no_snapshot : (s t : ℕ) → since_line s ≡ snapshot_line t → ⊥
+since_no_snapshot s t e =
+    apart 105 110 refl refl (heads (tails e))
+  where
+    apart : (b c : ℕ) → b ≡ 105 → c ≡ 110 → b ≡ c → ⊥
     apart b c p q r = omega arith
 
 -- a row's line begins with a digit

@@ -5,12 +5,12 @@ use Rattle.std.proofs.lemmas.List.Concat.{flat_map-append}
 use Rattle.update_core.specs.declared.appends.FeedAppend.{FeedAppend}
 use Rattle.update_core.specs.declared.updates.Update.{Update}
 use Rattle.feed_text.specs.declared.feed_lines.FeedLine.{FeedLine}
-use Rattle.feed_text.specs.declared.feed_lines.FeedLine.TheVariants.{Append, Snapshot}
+use Rattle.feed_text.specs.declared.feed_lines.FeedLine.TheVariants.{Append, Snapshot, Listen, Since}
 use Rattle.feed_text.specs.declared.limits.TheConstants.{MAX_COMMANDS, MAX_ROWS}
 use Rattle.feed_text.specs.Lines.{lines_of}
-use Rattle.feed_text.specs.Grammar.{append_line, row_line, snapshot_line, dot_line, command_lines, feed_lines, IsRow, IsAppend, IsCommand, IsFeed, Spells, Begins}
+use Rattle.feed_text.specs.Grammar.{append_line, row_line, dot_line, command_lines, feed_lines, IsRow, IsAppend, IsCommand, IsFeed, IsNoCommand, Spells, Begins}
 use Rattle.feed_text.specs.Reading.{block_lines}
-use Rattle.feed_text.proofs.Rows.{row_one, append_no_snapshot, row_no_dot}
+use Rattle.feed_text.proofs.Rows.{row_one, append_no_snapshot, append_no_listen, append_no_since, row_no_dot}
 use Rattle.feed_text.proofs.Commands.{commands_one}
 
 pub all_append : {A : Type 0} (P : A → Type 0) (xs ys : List A) → AllByRecursion P xs → AllByRecursion P ys → AllByRecursion P (xs ++ ys)
@@ -56,6 +56,8 @@ opened commands fs lower upper rows more hc hf e =
         → (a : FeedAppend) × (xs : List (List ℕ)) × IsAppend a × (map row_line a.rows ++ dot_line ∷ xs ≡ map row_line rows ++ more)
     which (Append a) rest is e = (a, feed_lines rest, is, sym (append_assoc (map row_line a.rows) (dot_line ∷ []) (feed_lines rest)) ∙ tails e)
     which (Snapshot t) rest is e = absurd (append_no_snapshot lower upper t (sym (heads e)))
+    which (Listen t) rest is e = absurd (append_no_listen lower upper t (sym (heads e)))
+    which (Since t) rest is e = absurd (append_no_since lower upper t (sym (heads e)))
 
 -- the line after some rows of a block is the dot or the next row
 next_in_block : (us vs : List Update) (line : List ℕ) (xs more : List (List ℕ)) → AllByRecursion IsRow us → AllByRecursion IsRow vs
@@ -83,18 +85,20 @@ no_end (u ∷ us) (v ∷ vs) xs hv e = no_end us vs xs hv.1 (tails e)
 longer : {A : Type 0} (fs xs rest : List A) (x : A) → fs ≡ xs ++ x ∷ rest → length xs < length fs
 longer fs xs rest x is = omega (arith, ap length is, length-append xs (x ∷ rest))
 
--- after whole commands comes an append line or a snapshot line
+-- after whole commands comes an append line or the one line of a command
 pub no_command : (commands : List FeedLine) (line : List ℕ) → AllByRecursion IsCommand commands
     → ((l : ℕ) (u : Option ℕ) → l < 2 ^ 64 → IfSome u (λ t. t < 2 ^ 64) → line ≡ append_line l u → ⊥)
-    → ((t : ℕ) → t < 2 ^ 64 → line ≡ snapshot_line t → ⊥)
+    → IsNoCommand line
     → Begins (feed_lines commands ++ line ∷ []) → ⊥
-no_command commands line each no_append no_snapshot begins =
+no_command commands line each no_append none begins =
     let next = after_commands commands begins.0 line begins.1 each begins.2.each begins.3 in
     which next.0 next.1 next.3 next.4
   where
     which : (c : FeedLine) (rest : List FeedLine) → IsCommand c → command_lines c ++ feed_lines rest ≡ line ∷ begins.1 → ⊥
     which (Append a) rest is e = no_append a.lower a.upper is.lower is.upper (sym (heads e))
-    which (Snapshot t) rest is e = no_snapshot t is (sym (heads e))
+    which (Snapshot t) rest is e = none (Snapshot t) is (λ i. heads e i ∷ [])
+    which (Listen t) rest is e = none (Listen t) is (λ i. heads e i ∷ [])
+    which (Since t) rest is e = none (Since t) is (λ i. heads e i ∷ [])
 
 -- after the last command that a feed may have comes no line
 pub too_many_commands : (commands : List FeedLine) (line : List ℕ) → AllByRecursion IsCommand commands → length commands ≡ MAX_COMMANDS

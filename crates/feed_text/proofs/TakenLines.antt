@@ -9,7 +9,7 @@ use Rattle.feed_text.specs.declared.limits.TheConstants.{MAX_BYTES, MAX_COMMANDS
 use Rattle.feed_text.specs.declared.line_faults.LineFault.{LineFault}
 use Rattle.feed_text.specs.declared.line_faults.LineFault.TheVariants.{Memory, Line}
 use Rattle.feed_text.specs.Faults.{IsFaultOf, IsRefusal, StopsAt}
-use Rattle.feed_text.specs.Grammar.{append_line, row_line, snapshot_line, dot_line, command_lines, feed_lines, lines_read, IsRow, IsFirstFault, Spells, Begins}
+use Rattle.feed_text.specs.Grammar.{append_line, row_line, dot_line, command_lines, feed_lines, lines_read, IsNoCommand, IsRow, IsFirstFault, Spells, Begins}
 use Rattle.feed_text.specs.Reading.{block_lines, taken_lines, IsTaken, IsNoRow}
 use Rattle.feed_text.proofs.Faults.{fault_refused, fault_at_end}
 use Rattle.feed_text.proofs.Spelling.{no_command, too_many_commands, no_row, too_many_rows, begins_closed, begins_open, open_spells_none}
@@ -29,10 +29,10 @@ full_refuses commands number line taken full begins =
     too_many_commands commands line taken.each (omega (arith, taken.within)) (subst (λ (ls : List (List ℕ)). Begins (ls ++ line ∷ [])) (closed_lines commands) begins)
 
 pub other_line_refused : (commands : List FeedLine) (number : ℕ) (line : List ℕ) → IsTaken commands None number
-    → ((l : ℕ) (u : Option ℕ) → l < 2 ^ 64 → IfSome u (λ t. t < 2 ^ 64) → line ≡ append_line l u → ⊥) → ((t : ℕ) → t < 2 ^ 64 → line ≡ snapshot_line t → ⊥)
+    → ((l : ℕ) (u : Option ℕ) → l < 2 ^ 64 → IfSome u (λ t. t < 2 ^ 64) → line ≡ append_line l u → ⊥) → IsNoCommand line
     → Begins (taken_lines commands None ++ line ∷ []) → ⊥
-other_line_refused commands number line taken head snapshot begins =
-    no_command commands line taken.each head snapshot (subst (λ (ls : List (List ℕ)). Begins (ls ++ line ∷ [])) (closed_lines commands) begins)
+other_line_refused commands number line taken head none begins =
+    no_command commands line taken.each head none (subst (λ (ls : List (List ℕ)). Begins (ls ++ line ∷ [])) (closed_lines commands) begins)
 
 -- the dot makes a command of the block
 pub dot_taken : (commands now : List FeedLine) (a : FeedAppend) (line : List ℕ) → line ≡ dot_line → now ≡ commands ++ Append a ∷ []

@@ -6,7 +6,7 @@ use Rattle.std.specs.List.{AllByRecursion, flat_map}
 use Rattle.update_core.specs.declared.appends.FeedAppend.{FeedAppend}
 use Rattle.update_core.specs.declared.updates.Update.{Update}
 use Rattle.feed_text.specs.declared.feed_lines.FeedLine.{FeedLine}
-use Rattle.feed_text.specs.declared.feed_lines.FeedLine.TheVariants.{Append, Snapshot}
+use Rattle.feed_text.specs.declared.feed_lines.FeedLine.TheVariants.{Append, Snapshot, Listen, Since}
 use Rattle.feed_text.specs.declared.limits.TheConstants.{MAX_BYTES, MAX_COMMANDS, MAX_ROWS}
 use Rattle.feed_text.specs.Lines.{lines_of}
 
@@ -27,6 +27,14 @@ row_line u = decimal u.time ++ 32 ∷ (signed_decimal u.diff ++ 32 ∷ u.datum)
 abbrev pub snapshot_line : ℕ → List ℕ
 snapshot_line t = codes "snapshot " ++ decimal t
 
+-- `listen T`
+abbrev pub listen_line : ℕ → List ℕ
+listen_line t = codes "listen " ++ decimal t
+
+-- `since S`
+abbrev pub since_line : ℕ → List ℕ
+since_line to = codes "since " ++ decimal to
+
 -- `.`
 abbrev pub dot_line : List ℕ
 dot_line = 46 ∷ []
@@ -35,6 +43,8 @@ dot_line = 46 ∷ []
 abbrev pub command_lines : FeedLine → List (List ℕ)
 command_lines (Append a) = append_line a.lower a.upper ∷ (map row_line a.rows ++ dot_line ∷ [])
 command_lines (Snapshot t) = snapshot_line t ∷ []
+command_lines (Listen t) = listen_line t ∷ []
+command_lines (Since to) = since_line to ∷ []
 
 abbrev pub feed_lines : List FeedLine → List (List ℕ)
 feed_lines commands = flat_map command_lines commands
@@ -57,6 +67,12 @@ pub record IsAppend (a : FeedAppend) : Type 0 where
 abbrev pub IsCommand : FeedLine → Type 0
 IsCommand (Append a) = IsAppend a
 IsCommand (Snapshot t) = t < 2 ^ 64
+IsCommand (Listen t) = t < 2 ^ 64
+IsCommand (Since to) = to < 2 ^ 64
+
+-- no command has this as its one line
+abbrev pub IsNoCommand : List ℕ → Type 0
+IsNoCommand line = (command : FeedLine) → IsCommand command → command_lines command ≡ line ∷ [] → ⊥
 
 -- commands within the limits
 pub record IsFeed (commands : List FeedLine) : Type 0 where

@@ -1,7 +1,8 @@
 // The lines that begin a command.
-ghost use Rattle.std.specs.Prelude.{◌≡◌, ℕ, ◌^◌, ◌<◌, Option, [], IfSome, MatchOption};
-ghost use Rattle.feed_text.specs.Grammar.{append_line, snapshot_line, IsAppend};
+ghost use Rattle.std.specs.Prelude.{◌≡◌, ℕ, ◌^◌, ◌<◌, Option, [], ◌∷◌, IfSome, MatchOption};
+ghost use Rattle.feed_text.specs.Grammar.{append_line, command_lines, IsAppend, IsCommand, IsNoCommand};
 
+use crate::feed_lines::FeedLine;
 use crate::line_cuts::cut_at;
 use crate::numbers::{frontier, number};
 use std::alloc::Global;
@@ -27,15 +28,22 @@ pub(crate) fn append_head(alloc: Global, line: &[u8]) -> Option<FeedAppend>
     })
 }
 
-// The time whose content a line asks for.
-pub(crate) fn snapshot_time(line: &[u8]) -> Option<u64>
+// The command that a line spells on its own: a word and a time.
+pub(crate) fn one_line_command(line: &[u8]) -> Option<FeedLine>
     ensures { MatchOption result
-        ((t : ℕ) → t < 2 ^ 64 → line.now ≡ snapshot_line t → ⊥)
-        (λ t. (t < 2 ^ 64) × (line.now ≡ snapshot_line t)) }
+        (IsNoCommand line.now)
+        (λ command. IsCommand command × (command_lines command ≡ line.now ∷ [])) }
 {
     let (word, time) = cut_at(b' ', line)?;
-    if word != b"snapshot".as_slice() {
-        return None;
+    let time = number(time)?;
+    if word == b"snapshot".as_slice() {
+        return Some(FeedLine::Snapshot { t: time });
     }
-    number(time)
+    if word == b"listen".as_slice() {
+        return Some(FeedLine::Listen { t: time });
+    }
+    if word == b"since".as_slice() {
+        return Some(FeedLine::Since { to: time });
+    }
+    None
 }

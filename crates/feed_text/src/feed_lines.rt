@@ -8,4 +8,8 @@ pub enum FeedLine {
     Append(FeedAppend),
     /// The content at a time.
     Snapshot { t: u64 },
+    /// The updates after a time, up to the upper.
+    Listen { t: u64 },
+    /// A new since for the reader of the run.
+    Since { to: u64 },
 }

@@ -5,7 +5,7 @@ ghost use Rattle.feed_text.specs.Faults.{IsRefusal};
 ghost use Rattle.feed_text.specs.Grammar.{dot_line, feed_lines, IsAppend};
 ghost use Rattle.feed_text.specs.Reading.{block_lines, taken_lines, IsTaken, IsNoRow};
 
-use crate::command_lines::{append_head, snapshot_time};
+use crate::command_lines::{append_head, one_line_command};
 use crate::feed_line_lists::FeedLines;
 use crate::feed_lines::FeedLine;
 use crate::limits::{MAX_COMMANDS, MAX_ROWS};
@@ -108,10 +108,10 @@ fn between_commands(
             number,
         });
     }
-    match snapshot_time(line) {
-        Some(t) => {
+    match one_line_command(line) {
+        Some(command) => {
             let mut commands = commands;
-            commands.push(FeedLine::Snapshot { t })?;
+            commands.push(command)?;
             Ok(FeedReader {
                 commands,
                 block: None,

@@ -1,14 +1,14 @@
 // The text of a reply.
-ghost use Rattle.std.specs.Prelude.{◌≡◌, ◌∷◌, [], ◌++◌, OnOk, OnErr};
+ghost use Rattle.std.specs.Prelude.{◌≡◌, ◌∷◌, [], ◌++◌, codes, OnOk, OnErr};
 ghost use Rattle.std.specs.Fmt.{decimal, signed_decimal};
 ghost use Rattle.std.specs.List.{flat_map};
 ghost use Rattle.feed_text.specs.Grammar.{frontier_text};
-ghost use Rattle.feed_text.specs.Replies.{row_text, reply_text, line_fault_text, Extends};
+ghost use Rattle.feed_text.specs.Replies.{row_text, update_text, reply_text, line_fault_text, Extends};
 
 use crate::replies::RunReply;
 use itoa::Buffer;
 use std::alloc::AllocError;
-use update_core::{Frontier, Row};
+use update_core::{Frontier, Row, Update};
 
 // Puts bytes at the end.
 fn put(out: &mut Vec<u8>, bytes: &[u8]) -> Result<(), AllocError>
@@ -93,6 +93,37 @@ fn put_content(out: &mut Vec<u8>, rows: &[Row]) -> Result<(), AllocError>
     put(out, b".\n")
 }
 
+fn put_update(out: &mut Vec<u8>, update: &Update) -> Result<(), AllocError>
+    ensures ok { OnOk result (out.new.items ≡ out.old.items ++ update_text update.now) }
+    ensures err { OnErr result (Extends out.old.items out.new.items) }
+{
+    put_number(out, update.time)?;
+    put(out, b" ")?;
+    put_difference(out, update.diff)?;
+    put(out, b" ")?;
+    put(out, update.datum.bytes())?;
+    put(out, b"\n")
+}
+
+fn put_updates(out: &mut Vec<u8>, updates: &[Update]) -> Result<(), AllocError>
+    ensures ok { OnOk result (out.new.items ≡ out.old.items ++ flat_map update_text updates.now) }
+    ensures err { OnErr result (Extends out.old.items out.new.items) }
+{
+    for update in updates {
+        put_update(out, update)?;
+    }
+    Ok(())
+}
+
+// Updates, and the frontier up to which they are all.
+fn put_step(out: &mut Vec<u8>, updates: &[Update], upper: Frontier) -> Result<(), AllocError>
+    ensures ok { OnOk result (out.new.items ≡ out.old.items ++ (flat_map update_text updates.now ++ (codes "upto " ++ (frontier_text upper ++ 10 ∷ [])))) }
+    ensures err { OnErr result (Extends out.old.items out.new.items) }
+{
+    put_updates(out, updates)?;
+    put_frontier_line(out, b"upto ", upper)
+}
+
 /// Puts the text of a reply at the end. Where memory is refused, some of it may be there.
 pub fn print_reply(out: &mut Vec<u8>, reply: &RunReply) -> Result<(), AllocError>
     ensures ok { OnOk result (out.new.items ≡ out.old.items ++ reply_text reply.now) }
@@ -107,6 +138,10 @@ pub fn print_reply(out: &mut Vec<u8>, reply: &RunReply) -> Result<(), AllocError
         RunReply::Rows(rows) => put_content(out, rows.as_slice()),
         RunReply::Early { since } => put_number_line(out, b"early ", *since),
         RunReply::Late { upper } => put_frontier_line(out, b"late ", *upper),
+        RunReply::Step { updates, upper } => put_step(out, updates.as_slice(), *upper),
+        RunReply::Ended => put(out, b"ended\n"),
+        RunReply::Quiet { upper } => put_frontier_line(out, b"quiet ", *upper),
+        RunReply::Back { since } => put_number_line(out, b"back ", *since),
     }
 }
 

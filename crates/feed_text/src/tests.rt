@@ -3,7 +3,7 @@ ghost use Rattle.std.specs.Prelude.{◌<◌};
 use super::*;
 use std::alloc::Global;
 use std::test::Fail;
-use update_core::{Datum, Frontier, Row, RowList};
+use update_core::{Datum, Frontier, Row, RowList, Update, UpdateList};
 
 // What became of a text: the number of its commands, or its line at fault.
 #[derive(Clone, Copy, Debug, PartialEq, Eq)]
@@ -28,6 +28,11 @@ fn feeds_are_read(rt: HostRuntime) {
         ("snapshot 0", 1),
         ("snapshot 0\n", 1),
         ("snapshot 18446744073709551615\n", 1),
+        ("listen 0\n", 1),
+        ("listen 18446744073709551615", 1),
+        ("since 0\n", 1),
+        ("since 18446744073709551615\n", 1),
+        ("listen 3\nsince 4\nsnapshot 5\nappend 0 5\n.\n", 4),
         ("append 0 closed\n.\n", 1),
         ("append 0 closed\n.", 1),
         ("append 5 5\n.\n", 1),
@@ -86,6 +91,17 @@ fn other_texts_are_refused_at_a_line(rt: HostRuntime) {
         ("snapshot -1\n", 1),
         ("snapshot 18446744073709551616\n", 1),
         ("snapshot 99999999999999999999999999\n", 1),
+        ("listen\n", 1),
+        ("listen 01\n", 1),
+        ("listen closed\n", 1),
+        ("listens 1\n", 1),
+        ("listen 18446744073709551616\n", 1),
+        ("since\n", 1),
+        ("since 1 \n", 1),
+        ("since -1\n", 1),
+        ("sinc 1\n", 1),
+        ("since 18446744073709551616\n", 1),
+        ("append 0 5\nlisten 1\n.\n", 2),
         ("append 0 5\n00 1 a\n.\n", 2),
         ("append 0 5\n0 01 a\n.\n", 2),
         ("append 0 5\n0 +1 a\n.\n", 2),
@@ -203,6 +219,17 @@ fn replies_have_texts(rt: HostRuntime) -> Result<(), Fail> {
         datum: Datum::of(alloc, b".")?,
         diff: 12,
     })?;
+    let mut updates = UpdateList::new(alloc);
+    updates.push(Update {
+        datum: Datum::of(alloc, b"pear")?,
+        time: 4,
+        diff: 1,
+    })?;
+    updates.push(Update {
+        datum: Datum::of(alloc, b"a b")?,
+        time: 7,
+        diff: -1,
+    })?;
     let closed = Frontier::closed();
     let cases = [
         (RunReply::Accepted, "ok\n"),
@@ -230,6 +257,29 @@ fn replies_have_texts(rt: HostRuntime) -> Result<(), Fail> {
             },
             "late 0\n",
         ),
+        (
+            RunReply::Step {
+                updates,
+                upper: Frontier::at(10),
+            },
+            "4 1 pear\n7 -1 a b\nupto 10\n",
+        ),
+        (
+            RunReply::Step {
+                updates: UpdateList::new(alloc),
+                upper: closed,
+            },
+            "upto closed\n",
+        ),
+        (RunReply::Ended, "ended\n"),
+        (
+            RunReply::Quiet {
+                upper: Frontier::at(3),
+            },
+            "quiet 3\n",
+        ),
+        (RunReply::Quiet { upper: closed }, "quiet closed\n"),
+        (RunReply::Back { since: 8 }, "back 8\n"),
     ];
     for (reply, want) in &cases {
         assert_eq!(rt;

@@ -5,3 +5,4 @@ pub mod ReadLaws
 pub mod EncodeLaws
 pub mod StandLaws
 pub mod RunLaws
+pub mod Examples

@@ -1,5 +1,5 @@
 -- Laws of collections in parts.
-use Rattle.std.proofs.Common.{◌≡◌, ◌≢◌, ℕ, zero, suc, ◌+◌, ◌<◌, ◌≤◌, Bool, true, false, cond, ℤ, pos, ◌+ℤ◌, Option, Some, None, List, [], ◌∷◌, ◌++◌, length, map, refl, sym, ap, subst, ◌∙◌, append_assoc, arith}
+use Rattle.std.proofs.Common.{◌≡◌, ◌≢◌, ℕ, zero, suc, ◌+◌, ◌<◌, ◌≤◌, Bool, true, false, cond, ℤ, pos, ◌+ℤ◌, Option, Some, None, List, [], ◌∷◌, ◌++◌, length, map, filter, refl, sym, ap, subst, ◌∙◌, append_assoc, arith}
 use Rattle.std.specs.Prelude.{nat_le, not, ◌&&◌, position}
 use Rattle.std.specs.List.{AllByRecursion, position_from}
 use Rattle.std.specs.declared.cmp.Ordering.{Ordering}
@@ -13,18 +13,20 @@ use Rattle.std.proofs.lemmas.Map.Lookups.{exact_unsigned}
 use Rattle.std.proofs.lemmas.Iterator.Adapters.{position_from-zero}
 use Rattle.update_core.specs.declared.updates.Update.{Update}
 use Rattle.update_core.specs.declared.appends.FeedAppend.{FeedAppend}
-use Rattle.update_core.specs.Frontiers.{covers}
-use Rattle.update_core.specs.Collections.{Collection, extended, empty_collection}
+use Rattle.update_core.specs.Frontiers.{covers, is_from}
+use Rattle.update_core.specs.Collections.{Collection, extended, empty_collection, is_past}
 use Rattle.update_core.specs.Totals.{added, consolidated}
 use Rattle.update_core.specs.declared.rows.Row.{Row}
-use Rattle.update_core.specs.Updates.{weight_of, until, cons, sum_of, moment_cmp, moment_entry, update_at, row_at, datum_entry}
+use Rattle.update_core.specs.Updates.{weight_of, cons, sum_of, slice_of, moment_cmp, moment_entry, update_at, row_at, datum_entry, time_cmp, time_entry, update_in_time}
 use Rattle.std.specs.Cmp.Lexicographic.{slice_cmp}
 use Rattle.update_core.proofs.WeightLaws.{weight_of-append, weight_of-cons}
 use Rattle.store_core.specs.declared.part_keys.PartKey.{PartKey}
 use Rattle.store_core.specs.Stores.{Stored, with_blob, key_cmp}
 use Rattle.persist_app.specs.declared.kept_appends.KeptAppend.{KeptAppend}
-use Rattle.persist_app.specs.PlainRuns.{is_outside}
-use Rattle.persist_app.specs.PartRuns.{part_key, part_of, joined, rows_of, parts_rows, append_rows, rows_until, with_parts, HoldsAppend, HoldsAll, Keeping, nothing_kept, Stands}
+use Rattle.persist_app.specs.declared.wanted_appends.Wanted.{Wanted}
+use Rattle.persist_app.specs.declared.wanted_appends.Wanted.TheVariants as wants
+use Rattle.persist_app.specs.PlainRuns.{is_outside, since_reply, collection_since}
+use Rattle.persist_app.specs.PartRuns.{part_key, part_of, joined, rows_of, parts_rows, append_rows, is_wanted, rows_wanted, with_parts, IsWithin, HoldsAppend, HoldsAll, Keeping, kept_since, nothing_kept, Stands}
 
 -- ---- keys
 
@@ -89,7 +91,7 @@ holds_elsewhere s t a (k ∷ ks) us same h = (
   h.0,
   h.1,
   h.2,
-  record { parts = parts_elsewhere s t a 0 k.parts (λ j. same a j (omega arith)) ∙ h.3.parts; from = h.3.from },
+  record { parts = parts_elsewhere s t a 0 k.parts (λ j. same a j (omega arith)) ∙ h.3.parts; within = h.3.within },
   holds_elsewhere s t (a + 1) ks h.1 (λ b j lt. same b j (omega arith)) h.4,
 )
 
@@ -160,27 +162,28 @@ unfolding consolidated
 consolidated_keys P R [] all = tt
 consolidated_keys P R (e ∷ es) all = added_keys P R e.0 e.1 (consolidated R es) all.0 (consolidated_keys P R es all.1)
 
-to_entries : (l : ℕ) (us : List Update) → AllByRecursion (λ u. l ≤ u.time) us → AllByRecursion (λ (e : (List ℕ × ℕ) × ℤ). l ≤ e.0.1) (map moment_entry us)
-to_entries l [] all = tt
-to_entries l (u ∷ us) all = (all.0, to_entries l us all.1)
+to_entries : (P : ℕ → Type 0) (us : List Update) → AllByRecursion (λ u. P u.time) us → AllByRecursion (λ (e : (List ℕ × ℕ) × ℤ). P e.0.1) (map moment_entry us)
+to_entries P [] all = tt
+to_entries P (u ∷ us) all = (all.0, to_entries P us all.1)
 
-from_entries : (l : ℕ) (es : List ((List ℕ × ℕ) × ℤ)) → AllByRecursion (λ (e : (List ℕ × ℕ) × ℤ). l ≤ e.0.1) es → AllByRecursion (λ u. l ≤ u.time) (map update_at es)
-from_entries l [] all = tt
-from_entries l (e ∷ es) all = (all.0, from_entries l es all.1)
+from_entries : (P : ℕ → Type 0) (es : List ((List ℕ × ℕ) × ℤ)) → AllByRecursion (λ (e : (List ℕ × ℕ) × ℤ). P e.0.1) es → AllByRecursion (λ u. P u.time) (map update_at es)
+from_entries P [] all = tt
+from_entries P (e ∷ es) all = (all.0, from_entries P es all.1)
 
 -- the times of a consolidation are those of its rows
-pub cons_from : (l : ℕ) (us : List Update) → AllByRecursion (λ u. l ≤ u.time) us → AllByRecursion (λ u. l ≤ u.time) (cons us)
-cons_from l us all = from_entries l (consolidated moment_cmp (map moment_entry us)) (consolidated_keys (λ (k : List ℕ × ℕ). l ≤ k.1) moment_cmp (map moment_entry us) (to_entries l us all))
+pub cons_times : (P : ℕ → Type 0) (us : List Update) → AllByRecursion (λ u. P u.time) us → AllByRecursion (λ u. P u.time) (cons us)
+cons_times P us all = from_entries P (consolidated moment_cmp (map moment_entry us)) (consolidated_keys (λ (k : List ℕ × ℕ). P k.1) moment_cmp (map moment_entry us) (to_entries P us all))
 
--- rows in range are from the lower on
-inside : (a : FeedAppend) (u : Update) → is_outside a u ≡ false → a.lower ≤ u.time
-inside a u h = within (nat_le a.lower u.time) (covers a.upper u.time) refl h
+-- rows that aren't outside are in range
+inside : (a : FeedAppend) (u : Update) → is_outside a u ≡ false → IsWithin a.lower a.upper u.time
+inside a u h = within (nat_le a.lower u.time) (covers a.upper u.time) refl refl h
   where
-    within : (b c : Bool) → nat_le a.lower u.time ≡ b → not (b && c) ≡ false → a.lower ≤ u.time
-    within true c e h = grind (arith, nat_tests)
-    within false c e h = cc
+    within : (b c : Bool) → nat_le a.lower u.time ≡ b → covers a.upper u.time ≡ c → not (b && c) ≡ false → IsWithin a.lower a.upper u.time
+    within true true e f h = (grind (arith, nat_tests), f)
+    within true false e f h = cc
+    within false c e f h = cc
 
-none_outside : (a : FeedAppend) (i : ℕ) (us : List Update) → position_from (is_outside a) i us ≡ None → AllByRecursion (λ u. a.lower ≤ u.time) us
+none_outside : (a : FeedAppend) (i : ℕ) (us : List Update) → position_from (is_outside a) i us ≡ None → AllByRecursion (λ u. IsWithin a.lower a.upper u.time) us
 none_outside a i [] h = tt
 none_outside a i (u ∷ us) h = (inside a u (first (is_outside a u) h), none_outside a (i + 1) us (later (is_outside a u) h))
   where
@@ -192,54 +195,75 @@ none_outside a i (u ∷ us) h = (inside a u (first (is_outside a u) h), none_out
     later true h = cc
     later false h = h
 
-pub in_range : (a : FeedAppend) → position (is_outside a) a.rows ≡ None → AllByRecursion (λ u. a.lower ≤ u.time) a.rows
+pub in_range : (a : FeedAppend) → position (is_outside a) a.rows ≡ None → AllByRecursion (λ u. IsWithin a.lower a.upper u.time) a.rows
 in_range a h = none_outside a 0 a.rows (sym (position_from-zero (is_outside a) a.rows) ∙ h)
 
--- ---- what a snapshot reads
+-- ---- what is read
 
--- rows that tell all of a list up to t, and weigh no more
-pub record TellsUntil (t : ℕ) (us read : List Update) : Type 0 where
-  pub until : until t read ≡ until t us
+-- rows that tell all that passes a test of a list, and weigh no more
+pub record Tells (p : Update → Bool) (us read : List Update) : Type 0 where
+  pub same : filter p read ≡ filter p us
   pub light : weight_of read ≤ weight_of us
 
--- rows from a time past t on tell nothing up to t
-none_until : (t l : ℕ) (us : List Update) → nat_le l t ≡ false → AllByRecursion (λ u. l ≤ u.time) us → until t us ≡ []
-none_until t l [] past all = refl
-none_until t l (u ∷ us) past all = ap (λ b. cond b (u ∷ until t us) (until t us)) after ∙ none_until t l us past all.1
-  where
-    after : nat_le u.time t ≡ false
-    after = grind (arith, nat_tests)
+-- no time in the range of an append that isn't wanted passes the test
+abbrev pub Suits : Wanted → (Update → Bool) → Type 0
+Suits w p = (k : KeptAppend) (u : Update) → is_wanted w k ≡ false → IsWithin k.lower k.upper u.time → p u ≡ false
 
-tells_both : (t : ℕ) (first rest read us : List Update) → us ≡ first ++ rest → TellsUntil t rest read → TellsUntil t us (first ++ read)
-tells_both t first rest read us e tells = record {
-  until = filter-append (λ u. nat_le u.time t) first read ∙ ap (λ v. until t first ++ v) tells.until ∙ sym (filter-append (λ u. nat_le u.time t) first rest) ∙ ap (until t) (sym e);
+none_passes : (p : Update → Bool) (w : Wanted) (k : KeptAppend) (us : List Update) → Suits w p → is_wanted w k ≡ false → AllByRecursion (λ u. IsWithin k.lower k.upper u.time) us → filter p us ≡ []
+none_passes p w k [] suits other all = refl
+none_passes p w k (u ∷ us) suits other all = ap (λ b. cond b (u ∷ filter p us) (filter p us)) (suits k u other all.0) ∙ none_passes p w k us suits other all.1
+
+tells_both : (p : Update → Bool) (first rest read us : List Update) → us ≡ first ++ rest → Tells p rest read → Tells p us (first ++ read)
+tells_both p first rest read us e tells = record {
+  same = filter-append p first read ∙ ap (λ v. filter p first ++ v) tells.same ∙ sym (filter-append p first rest) ∙ ap (filter p) (sym e);
   light = omega (arith, weight_of-append first read, weight_of-append first rest, tells.light, ap weight_of e);
 }
 
-tells_later : (t l : ℕ) (first rest read us : List Update) → nat_le l t ≡ false → AllByRecursion (λ u. l ≤ u.time) first → us ≡ first ++ rest → TellsUntil t rest read → TellsUntil t us read
-tells_later t l first rest read us past from e tells = record {
-  until = tells.until ∙ ap (λ v. v ++ until t rest) (sym (none_until t l first past from)) ∙ sym (filter-append (λ u. nat_le u.time t) first rest) ∙ ap (until t) (sym e);
+tells_rest : (p : Update → Bool) (first rest read us : List Update) → filter p first ≡ [] → us ≡ first ++ rest → Tells p rest read → Tells p us read
+tells_rest p first rest read us none e tells = record {
+  same = tells.same ∙ ap (λ v. v ++ filter p rest) (sym none) ∙ sym (filter-append p first rest) ∙ ap (filter p) (sym e);
   light = omega (arith, weight_of-append first rest, tells.light, ap weight_of e);
 }
 
-abbrev ReadsEnough : ℕ → List Update → Option (List Update) → Type 0
-ReadsEnough t us wanted = (read : List Update) × (wanted ≡ Some read) × TellsUntil t us read
+abbrev ReadsEnough : (Update → Bool) → List Update → Option (List Update) → Type 0
+ReadsEnough p us wanted = (read : List Update) × (wanted ≡ Some read) × Tells p us read
 
-one_read_more : (t l : ℕ) (first rest us : List Update) (p w : Option (List Update)) (b : Bool) → nat_le l t ≡ b → p ≡ Some first → AllByRecursion (λ u. l ≤ u.time) first → us ≡ first ++ rest → ReadsEnough t rest w → ReadsEnough t us (joined (cond b p (Some [])) w)
-one_read_more t l first rest us p w true past here from e more = (first ++ more.0, ap (λ v. joined v w) here ∙ ap (joined (Some first)) more.1, tells_both t first rest more.0 us e more.2)
-one_read_more t l first rest us p w false past here from e more = (more.0, joined-nil w ∙ more.1, tells_later t l first rest more.0 us past from e more.2)
+one_read_more : (p : Update → Bool) (first rest us : List Update) (here later : Option (List Update)) (b : Bool) → (b ≡ false → filter p first ≡ []) → here ≡ Some first → us ≡ first ++ rest → ReadsEnough p rest later → ReadsEnough p us (joined (cond b here (Some [])) later)
+one_read_more p first rest us here later true none is e more = (first ++ more.0, ap (λ v. joined v later) is ∙ ap (joined (Some first)) more.1, tells_both p first rest more.0 us e more.2)
+one_read_more p first rest us here later false none is e more = (more.0, joined-nil later ∙ more.1, tells_rest p first rest more.0 us (none refl) e more.2)
 
--- the appends whose lower isn't above t tell all up to t
-pub reads_enough : (t : ℕ) (s : Stored) (a : ℕ) (ks : List KeptAppend) (us : List Update) → HoldsAll s a ks us → ReadsEnough t us (rows_until t s a ks)
-reads_enough t s a [] us h = ([], refl, record { until = ap (until t) (sym h); light = omega (arith, ap weight_of h) })
-reads_enough t s a (k ∷ ks) us h =
-    one_read_more t k.lower h.0 h.1 us (append_rows s a k) (rows_until t s (a + 1) ks) (nat_le k.lower t) refl h.3.parts h.3.from h.2 (reads_enough t s (a + 1) ks h.1 h.4)
+-- the appends that are wanted tell all that passes a test that suits
+pub reads_enough : (p : Update → Bool) (w : Wanted) (s : Stored) (a : ℕ) (ks : List KeptAppend) (us : List Update) → Suits w p → HoldsAll s a ks us → ReadsEnough p us (rows_wanted w s a ks)
+reads_enough p w s a [] us suits h = ([], refl, record { same = ap (filter p) (sym h); light = omega (arith, ap weight_of h) })
+reads_enough p w s a (k ∷ ks) us suits h =
+    one_read_more p h.0 h.1 us (append_rows s a k) (rows_wanted w s (a + 1) ks) (is_wanted w k) (λ other. none_passes p w k h.0 suits other h.3.within) h.3.parts h.2 (reads_enough p w s (a + 1) ks h.1 suits h.4)
 
-pub same_sum : (t : ℕ) (us read : List Update) → TellsUntil t us read → sum_of read t ≡ sum_of us t
-same_sum t us read tells = ap sum tells.until
+-- rows from a time past t on aren't up to t
+pub until_suits : (t : ℕ) → Suits (wants.Until t) (λ u. nat_le u.time t)
+until_suits t k u other within =
+    let lower : k.lower ≤ u.time = within.0 in
+    grind (arith, nat_tests)
+
+pub same_sum : (t : ℕ) (us read : List Update) → Tells (λ u. nat_le u.time t) us read → sum_of read t ≡ sum_of us t
+same_sum t us read tells = ap sum tells.same
   where
     sum : List Update → List Row
     sum vs = map row_at (consolidated (slice_cmp nat_cmp) (map datum_entry vs))
+
+-- rows below an upper that isn't past f aren't from f on
+not_from : (upper f : Option ℕ) (t : ℕ) → is_past upper f ≡ false → covers upper t ≡ true → is_from f t ≡ false
+not_from upper None t other within = refl
+not_from None (Some f) t other within = cc
+not_from (Some b) (Some f) t other within = grind (arith, nat_tests)
+
+pub between_suits : (f g : Option ℕ) → Suits (wants.From f) (λ u. is_from f u.time && covers g u.time)
+between_suits f g k u other within = ap (λ b. b && covers g u.time) (not_from k.upper f u.time other within.1)
+
+pub same_slice : (f g : Option ℕ) (us read : List Update) → Tells (λ u. is_from f u.time && covers g u.time) us read → slice_of read f g ≡ slice_of us f g
+same_slice f g us read tells = ap slice tells.same
+  where
+    slice : List Update → List Update
+    slice vs = map update_in_time (consolidated time_cmp (map time_entry vs))
 
 -- ---- standing for a collection
 
@@ -247,16 +271,27 @@ pub empty_stands : (s : Stored) → Stands s nothing_kept empty_collection
 empty_stands s = record { rows = refl; since = refl; upper = refl; weight = refl; light = omega arith }
 
 -- an append whose parts are set
-pub append_stands : (s : Stored) (k now : Keeping) (c : Collection) (l token : ℕ) (rows : List Update) (bs : List (List ℕ)) (upper : Option ℕ) (weight : ℕ) → Stands s k c → rows_of bs ≡ Some (cons rows) → AllByRecursion (λ u. l ≤ u.time) rows
-    → token ≡ length k.appends + 1 → weight ≡ weight_of rows → now ≡ record { appends = k.appends ++ record { lower = l; parts = length bs } ∷ []; since = k.since; upper = upper; weight = k.weight + weight }
+pub append_stands : (s : Stored) (k now : Keeping) (c : Collection) (l token : ℕ) (rows : List Update) (bs : List (List ℕ)) (upper : Option ℕ) (weight : ℕ) → Stands s k c → rows_of bs ≡ Some (cons rows) → AllByRecursion (λ u. IsWithin l upper u.time) rows
+    → token ≡ length k.appends + 1 → weight ≡ weight_of rows → now ≡ record { appends = k.appends ++ record { lower = l; upper = upper; parts = length bs } ∷ []; since = k.since; upper = upper; weight = k.weight + weight }
     → Stands (with_parts s token 0 bs) now (extended c rows upper weight)
-append_stands s k now c l token rows bs upper weight stands bytes from number weighs is =
+append_stands s k now c l token rows bs upper weight stands bytes within number weighs is =
     subst (λ v. Stands (with_parts s token 0 bs) v (extended c rows upper weight)) (sym is) (record {
-      rows = holds_one_more (with_parts s token 0 bs) 1 token k.appends c.updates (record { lower = l; parts = length bs }) (cons rows) (omega arith)
+      rows = holds_one_more (with_parts s token 0 bs) 1 token k.appends c.updates (record { lower = l; upper = upper; parts = length bs }) (cons rows) (omega arith)
           (holds_elsewhere s (with_parts s token 0 bs) 1 k.appends c.updates (λ b j lt. set_elsewhere s token 0 bs b j (omega arith)) stands.rows)
-          (record { parts = parts_set s token 0 bs ∙ bytes; from = cons_from l rows from });
+          (record { parts = parts_set s token 0 bs ∙ bytes; within = cons_times (IsWithin l upper) rows within });
       since = stands.since;
       upper = refl;
       weight = ap (λ n. n + weight) stands.weight;
       light = omega (arith, weight_of-append c.updates (cons rows), weight_of-cons rows, stands.light);
     })
+
+-- a new since of the one reader
+pub since_stands : (s : Stored) (k : Keeping) (c : Collection) (to : ℕ) → Stands s k c → (since_reply k.since to ≡ since_reply c.since to) × Stands s (kept_since k to) (collection_since c to)
+since_stands s k c to stands = (
+  ap (λ n. since_reply n to) stands.since,
+  subst (λ n. Stands s (cond (nat_le k.since to) (record k { since = to }) k) (cond (nat_le n to) (record c { since = to }) c)) stands.since (moved (nat_le k.since to)),
+)
+  where
+    moved : (b : Bool) → Stands s (cond b (record k { since = to }) k) (cond b (record c { since = to }) c)
+    moved true = record { rows = stands.rows; since = refl; upper = stands.upper; weight = stands.weight; light = stands.light }
+    moved false = stands

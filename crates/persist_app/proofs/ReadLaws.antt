@@ -1,6 +1,6 @@
 -- What calls that read or set parts have come to.
 use Rattle.std.proofs.Common.{◌≡◌, ℕ, suc, ◌+◌, ◌-◌, ◌<◌, ◌≤◌, cond, Option, Some, None, Result, Ok, Err, List, [], ◌∷◌, ◌++◌, length, length-drop, drop, get_or, refl, sym, ap, subst, ◌∙◌, arith}
-use Rattle.std.specs.Prelude.{nat_le, OnOk}
+use Rattle.std.specs.Prelude.{OnOk}
 use Rattle.std.proofs.Math.Seq.{drop-cons}
 use Rattle.std.proofs.lemmas.List.{nil_from_length}
 use Rattle.causes.specs.Causes.{Rose}
@@ -15,10 +15,11 @@ use Rattle.store_core.specs.declared.part_keys.PartKey.{PartKey}
 use Rattle.store_core.specs.Stores.{Stored, with_blob}
 use Rattle.store_core.specs.Histories.{History, Adds}
 use Rattle.persist_app.specs.declared.kept_appends.KeptAppend.{KeptAppend}
+use Rattle.persist_app.specs.declared.wanted_appends.Wanted.{Wanted}
 use Rattle.persist_app.specs.declared.parts_faults.PartsFault.{PartsFault}
 use Rattle.persist_app.specs.declared.parts_faults.PartsFault.TheVariants as faults
 use Rattle.persist_app.specs.StoreTurns.{Turns, StoreFailed}
-use Rattle.persist_app.specs.PartRuns.{Brings, Finds, part_key, part_of, joined, parts_rows, append_rows, rows_until, with_parts, ok_of}
+use Rattle.persist_app.specs.PartRuns.{Brings, Finds, part_key, part_of, joined, parts_rows, append_rows, is_wanted, rows_wanted, with_parts, ok_of}
 use Rattle.persist_app.proofs.TurnLaws.{no_turn, more_turns, turns_so, get_turn, get_leaves, set_turn}
 use Rattle.persist_app.proofs.PartLaws.{joined-nil, joined-none, joined-more, joined-all}
 
@@ -94,14 +95,14 @@ pub no_parts_left : (s : Stored) (token i n : ℕ) → n ≤ i → parts_rows s 
 no_parts_left s token i n le = let e : n - i ≡ 0 = omega arith in ap (parts_rows s token i) e
 
 -- the appends that are left
-pub appends_left : (t : ℕ) (s : Stored) (ks : List KeptAppend) (i token : ℕ) (d : KeptAppend) → i < length ks
-    → rows_until t s token (drop i ks) ≡ joined (cond (nat_le (get_or ks i d).lower t) (append_rows s token (get_or ks i d)) (Some [])) (rows_until t s (token + 1) (drop (i + 1) ks))
-appends_left t s ks i token d lt =
+pub appends_left : (w : Wanted) (s : Stored) (ks : List KeptAppend) (i token : ℕ) (k : KeptAppend) → i < length ks → k ≡ get_or ks i k
+    → rows_wanted w s token (drop i ks) ≡ joined (cond (is_wanted w k) (append_rows s token k) (Some [])) (rows_wanted w s (token + 1) (drop (i + 1) ks))
+appends_left w s ks i token k lt is =
     let next : suc i ≡ i + 1 = omega arith in
-    ap (rows_until t s token) (drop-cons ks i d lt ∙ ap (λ j. get_or ks i d ∷ drop j ks) next)
+    ap (rows_wanted w s token) (drop-cons ks i k lt ∙ ap (λ j. get_or ks i k ∷ drop j ks) next ∙ ap (λ x. x ∷ drop (i + 1) ks) (sym is))
 
-pub no_appends_left : (t : ℕ) (s : Stored) (ks : List KeptAppend) (i token : ℕ) → length ks ≤ i → rows_until t s token (drop i ks) ≡ Some []
-no_appends_left t s ks i token le = ap (rows_until t s token) (none_left ks i le)
+pub no_appends_left : (w : Wanted) (s : Stored) (ks : List KeptAppend) (i token : ℕ) → length ks ≤ i → rows_wanted w s token (drop i ks) ≡ Some []
+no_appends_left w s ks i token le = ap (rows_wanted w s token) (none_left ks i le)
   where
     none_left : (xs : List KeptAppend) (j : ℕ) → length xs ≤ j → drop j xs ≡ []
     none_left xs j le = nil_from_length (drop j xs) (omega (arith, length-drop j xs))

@@ -1,9 +1,12 @@
 -- What of a plain run is written so far.
-use Rattle.std.proofs.Common.{Result, Ok, Err, ◌≡◌, ℕ, Option, Some, None, List, [], ◌∷◌, ◌++◌, refl, sym, ap, subst, ◌∙◌, append_assoc}
-use Rattle.std.specs.Prelude.{IfSome}
+use Rattle.std.proofs.Common.{Result, Ok, Err, ◌≡◌, ℕ, Bool, true, false, cond, Option, Some, None, List, [], ◌∷◌, ◌++◌, refl, sym, ap, subst, ◌∙◌, append_assoc}
+use Rattle.std.specs.Prelude.{IfSome, nat_le, position}
 use Rattle.std.proofs.lemmas.List.{append-nil}
-use Rattle.update_core.specs.Collections.{Collection, empty_collection}
-use Rattle.feed_text.specs.declared.feed_lines.FeedLine.TheVariants.{Append, Snapshot}
+use Rattle.update_core.specs.Collections.{Collection, empty_collection, AppendAnswer, accepted, mismatch, heavy, append_answer, after_answer}
+use Rattle.update_core.specs.Frontiers.{covers}
+use Rattle.update_core.specs.Updates.{weight_of}
+use Rattle.update_core.specs.declared.appends.FeedAppend.{FeedAppend}
+use Rattle.feed_text.specs.declared.feed_lines.FeedLine.TheVariants.{Append, Snapshot, Listen, Since}
 use Rattle.feed_text.specs.declared.feed_lines.FeedLine.{FeedLine}
 use Rattle.feed_text.specs.declared.replies.RunReply.{RunReply}
 use Rattle.feed_text.specs.Replies.{reply_text}
@@ -13,7 +16,7 @@ use Rattle.store_core.specs.Stores.{Stored}
 use Rattle.store_core.specs.Histories.{History}
 use Rattle.persist_app.specs.declared.parts_faults.PartsFault.{PartsFault}
 use Rattle.persist_app.specs.declared.parts_faults.PartsFault.TheVariants as faults
-use Rattle.persist_app.specs.PlainRuns.{View, empty_view, line_after, view_of, reply_to, view_after, plain_run}
+use Rattle.persist_app.specs.PlainRuns.{View, empty_view, with_own, is_outside, ranged_after, collection_after, line_after, view_of, reply_to, view_after, plain_run}
 use Rattle.persist_app.specs.StoreTurns.{Extends, Turns}
 use Rattle.persist_app.specs.PartRuns.{Keeping, Keeps, Stands, nothing_kept}
 use Rattle.persist_app.proofs.TurnLaws.{extends_by, more_turns, no_turn}
@@ -54,9 +57,32 @@ Answered line k next result s t = (c : Collection) → Stands s k c → Keeps (r
 pub run_over_starts : (a : Option History) (taken : Option (List ℕ)) (all : List FeedLine) → RunOver a a taken taken all nothing_kept all
 run_over_starts a taken all = no_turn a (λ s t. (c : Collection) × Stands t nothing_kept c × RunSoFar taken taken all (view_of c) all) (λ s. (empty_collection, empty_stands s, run_starts taken all))
 
+-- no append changes the since
+append_keeps_since : (c : Collection) (a : FeedAppend) → (collection_after c a).since ≡ c.since
+append_keeps_since c a = filled (covers a.upper a.lower)
+  where
+    answered : (x : AppendAnswer) → (after_answer x c a.rows a.upper (weight_of a.rows)).since ≡ c.since
+    answered accepted = refl
+    answered (mismatch u) = refl
+    answered (heavy w) = refl
+
+    ranged : (p : Option ℕ) → (ranged_after p c a).since ≡ c.since
+    ranged (Some row) = refl
+    ranged None = answered (append_answer c a.lower (weight_of a.rows))
+
+    filled : (b : Bool) → (cond b (ranged_after (position (is_outside a) a.rows) c a) c).since ≡ c.since
+    filled true = ranged (position (is_outside a) a.rows)
+    filled false = refl
+
 after_is : (c : Collection) (line : FeedLine) → view_of (line_after c line) ≡ view_after (view_of c) line
-after_is c (Append x) = refl
+after_is c (Append a) = λ i. record { collection = collection_after c a; own = append_keeps_since c a i; readers = [] }
 after_is c (Snapshot t) = refl
+after_is c (Listen t) = refl
+after_is c (Since to) = moved (nat_le c.since to)
+  where
+    moved : (b : Bool) → view_of (cond b (record c { since = to }) c) ≡ cond b (with_own (view_of c) to) (view_of c)
+    moved true = refl
+    moved false = refl
 
 pub run_over_goes_on : (a b d : Option History) (taken before now : Option (List ℕ)) (all had rest : List FeedLine) (k next : Keeping) (line : FeedLine) (reply : RunReply) (text : List ℕ) → had ≡ line ∷ rest → RunOver a b taken before all k had
     → Turns b d (Answered line k next (Ok reply)) → text ≡ reply_text reply → Gains before now text → RunOver a d taken now all next rest

@@ -1,10 +1,10 @@
 -- A collection whose accepted appends lie in a store, in parts.
-use Rattle.std.specs.Prelude.{◌≡◌, ◌≢◌, ℕ, zero, suc, ◌+◌, ◌^◌, ◌<◌, ◌≤◌, nat_le, if◌then◌else◌, ⊤, Option, Some, None, Result, Ok, Err, List, [], ◌∷◌, ◌++◌}
+use Rattle.std.specs.Prelude.{◌≡◌, ◌≢◌, ℕ, zero, suc, ◌+◌, ◌^◌, ◌<◌, ◌≤◌, Bool, true, nat_le, if◌then◌else◌, ⊤, Option, Some, None, Result, Ok, Err, List, [], ◌∷◌, ◌++◌}
 use Rattle.std.specs.List.{AllByRecursion}
 use Rattle.update_core.specs.declared.updates.Update.{Update}
-use Rattle.update_core.specs.Collections.{Collection}
-use Rattle.update_core.specs.declared.rows.Row.{Row}
-use Rattle.update_core.specs.Updates.{sum_of, weight_of}
+use Rattle.update_core.specs.Collections.{Collection, is_past}
+use Rattle.update_core.specs.Frontiers.{covers}
+use Rattle.update_core.specs.Updates.{weight_of}
 use Rattle.feed_text.specs.declared.replies.RunReply.{RunReply}
 use Rattle.store_core.specs.declared.part_keys.PartKey.{PartKey}
 use Rattle.store_core.specs.declared.replies.Reply.{Reply}
@@ -13,6 +13,8 @@ use Rattle.store_core.specs.Stores.{Stored, with_blob}
 use Rattle.part_codec.specs.Reading.{all_of}
 use Rattle.part_codec.specs.declared.part_faults.PartFault.{PartFault}
 use Rattle.persist_app.specs.declared.kept_appends.KeptAppend.{KeptAppend}
+use Rattle.persist_app.specs.declared.wanted_appends.Wanted.{Wanted}
+use Rattle.persist_app.specs.declared.wanted_appends.Wanted.TheVariants as wants
 use Rattle.persist_app.specs.declared.parts_faults.PartsFault.{PartsFault}
 use Rattle.persist_app.specs.declared.parts_faults.PartsFault.TheVariants as faults
 
@@ -50,20 +52,29 @@ parts_rows s token index (suc n) = joined (part_of (s.blobs (part_key token inde
 abbrev pub append_rows : Stored → ℕ → KeptAppend → Option (List Update)
 append_rows s token kept = parts_rows s token 0 kept.parts
 
--- the rows of the appends whose lower isn't above t
-abbrev pub rows_until : ℕ → Stored → ℕ → List KeptAppend → Option (List Update)
-rows_until t s token [] = Some []
-rows_until t s token (k ∷ ks) = joined (if nat_le k.lower t then append_rows s token k else Some []) (rows_until t s (token + 1) ks)
+-- the appends that are wanted for a time, and from a frontier on
+abbrev pub is_wanted : Wanted → KeptAppend → Bool
+is_wanted (wants.Until t) k = nat_le k.lower t
+is_wanted (wants.From f) k = is_past k.upper f
+
+-- the rows of the appends that are wanted
+abbrev pub rows_wanted : Wanted → Stored → ℕ → List KeptAppend → Option (List Update)
+rows_wanted w s token [] = Some []
+rows_wanted w s token (k ∷ ks) = joined (if is_wanted w k then append_rows s token k else Some []) (rows_wanted w s (token + 1) ks)
 
 -- the store with these parts set, from a key on
 abbrev pub with_parts : Stored → ℕ → ℕ → List (List ℕ) → Stored
 with_parts s token index [] = s
 with_parts s token index (b ∷ bs) = with_parts (with_blob s (part_key token index) (Some b)) token (index + 1) bs
 
--- The parts of an accepted append have these rows, whose times are from its lower on.
+-- the time is from the lower on, and the upper covers it
+abbrev pub IsWithin : ℕ → Option ℕ → ℕ → Type 0
+IsWithin lower upper t = (lower ≤ t) × (covers upper t ≡ true)
+
+-- The parts of an accepted append have these rows, whose times are in its range.
 pub record HoldsAppend (s : Stored) (token : ℕ) (kept : KeptAppend) (rows : List Update) : Type 0 where
   pub parts : append_rows s token kept ≡ Some rows
-  pub from : AllByRecursion (λ u. kept.lower ≤ u.time) rows
+  pub within : AllByRecursion (λ u. IsWithin kept.lower kept.upper u.time) rows
 
 -- the accepted appends have these rows, one after the other
 abbrev pub HoldsAll : Stored → ℕ → List KeptAppend → List Update → Type 0
@@ -76,6 +87,10 @@ pub record Keeping : Type 0 where
   pub since : ℕ
   pub upper : Option ℕ
   pub weight : ℕ
+
+-- what is kept after a new since of the one reader
+abbrev pub kept_since : Keeping → ℕ → Keeping
+kept_since k to = if nat_le k.since to then record k { since = to } else k
 
 -- nothing is kept of the empty collection
 abbrev pub nothing_kept : Keeping
@@ -103,12 +118,12 @@ Brings reply (Err faults.Memory) = ⊥
 Brings reply (Err faults.Store) = (found : Option (List ℕ)) → reply ≢ replies.Bytes found
 Brings reply (Err faults.Damaged) = ⊥
 
--- the content at t, where the rows aren't too heavy for a sum
-abbrev pub Sums : List Update → ℕ → Result (List Row) PartsFault → Type 0
-Sums rows t (Ok content) = content ≡ sum_of rows t
-Sums rows t (Err faults.Memory) = ⊤
-Sums rows t (Err faults.Store) = ⊥
-Sums rows t (Err faults.Damaged) = 2 ^ 62 < weight_of rows
+-- what is summed over the rows is this, where they aren't too heavy for a sum
+abbrev pub Sums : {X : Type 0} → List Update → X → Result X PartsFault → Type 0
+Sums rows wanted (Ok x) = x ≡ wanted
+Sums rows wanted (Err faults.Memory) = ⊤
+Sums rows wanted (Err faults.Store) = ⊥
+Sums rows wanted (Err faults.Damaged) = 2 ^ 62 < weight_of rows
 
 -- The reply is this one, and the store and what is kept stand for this collection from then on. No part was damaged.
 abbrev pub Keeps : RunReply → Collection → Stored → Keeping → Result RunReply PartsFault → Type 0

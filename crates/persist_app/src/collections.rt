@@ -1,13 +1,13 @@
 // The plain collection, kept as one list.
-ghost use Rattle.std.specs.Prelude.{◌≡◌, IfOk, OnOk, OnErr, None, Some, position};
-ghost use Rattle.update_core.specs.Collections.{empty_collection, append_answer, after_append, snapshot_answer};
+ghost use Rattle.std.specs.Prelude.{◌≡◌, IfOk, OnOk, OnErr, None, Some, ◌&&◌, position};
+ghost use Rattle.update_core.specs.Collections.{empty_collection, append_answer, after_append, snapshot_answer, listen_answer, is_closed, is_past};
 ghost use Rattle.update_core.specs.Updates.{weight_of};
-ghost use Rattle.persist_app.specs.PlainRuns.{append_reply, append_text, collection_after, is_outside, snapshot_text};
+ghost use Rattle.persist_app.specs.PlainRuns.{append_reply, append_text, collection_after, collection_since, is_outside, listen_text, since_reply, snapshot_text};
 
 use feed_text::RunReply;
 use std::alloc::{AllocError, Global};
 use std::marker::Model;
-use update_core::{FeedAppend, Frontier, UpdateList, consolidate, sum_at, weight};
+use update_core::{FeedAppend, Frontier, UpdateList, consolidate, slice_between, sum_at, weight};
 
 /// The greatest weight of a collection.
 pub(crate) const MAX_WEIGHT: u128 = 1 << 62;
@@ -39,6 +39,23 @@ pub(crate) fn first_outside(append: &FeedAppend) -> Option<usize>
 {
     append.rows.as_slice().iter().position(|row| !(append.lower <= row.time
         && append.upper.covers(row.time)))
+}
+
+/// Whether the upper is past a frontier. None is past Closed.
+pub(crate) fn passes(upper: Frontier, from: Frontier) -> bool
+    ensures { result ≡ is_past upper from }
+{
+    match from.time() {
+        Some(t) => upper.covers(t),
+        None => false,
+    }
+}
+
+/// Whether both frontiers are Closed.
+pub(crate) fn both_closed(from: Frontier, upper: Frontier) -> bool
+    ensures { result ≡ (is_closed from && is_closed upper) }
+{
+    from.time().is_none() && upper.time().is_none()
 }
 
 impl PlainCollection {
@@ -106,5 +123,38 @@ impl PlainCollection {
             return Ok(RunReply::Late { upper: self.upper });
         }
         Ok(RunReply::Rows(sum_at(alloc, &self.updates, t)?))
+    }
+
+    /// The updates from a frontier up to the upper; early where the since is from the frontier on, ended where both are
+    /// Closed, quiet where the upper isn't past the frontier. It fails only for want of memory.
+    pub fn listen(&self, alloc: Global, from: Frontier) -> Result<RunReply, AllocError>
+        ensures { IfOk result (λ reply. reply ≡ listen_text (listen_answer self.now from)) }
+    {
+        if from.reaches(self.since) {
+            return Ok(RunReply::Early { since: self.since });
+        }
+        if both_closed(from, self.upper) {
+            return Ok(RunReply::Ended);
+        }
+        if !passes(self.upper, from) {
+            return Ok(RunReply::Quiet { upper: self.upper });
+        }
+        let updates = slice_between(alloc, &self.updates, from, self.upper)?;
+        Ok(RunReply::Step {
+            updates,
+            upper: self.upper,
+        })
+    }
+
+    /// Moves the since to this time, where that isn't below it. It is the since of the one reader, the caller's.
+    pub fn advance(&mut self, to: u64) -> RunReply
+        ensures reply { result ≡ since_reply self.old.since to }
+        ensures after { self.new ≡ collection_since self.old to }
+    {
+        if to < self.since {
+            return RunReply::Back { since: self.since };
+        }
+        self.since = to;
+        RunReply::Accepted
     }
 }

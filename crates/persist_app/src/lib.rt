@@ -15,6 +15,7 @@ mod run_faults;
 mod runs;
 mod statuses;
 mod system_clocks;
+mod wanted_appends;
 mod words;
 
 pub use clocks::{Clock, FixedClock};

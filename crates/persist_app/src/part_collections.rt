@@ -1,23 +1,26 @@
 // The plain collection, its rows kept in a store.
 ghost use Rattle.std.specs.Prelude.{◌≡◌, ◌≤◌, ◌+◌, ◌^◌, ◌∷◌, ◌++◌, [], length, IfOk, OnOk, OnErr, None, Some, position};
 ghost use Rattle.store_core.specs.Stores.{Stored};
-ghost use Rattle.update_core.specs.Collections.{Collection, append_answer, after_append, snapshot_answer};
+ghost use Rattle.update_core.specs.Collections.{Collection, append_answer, after_append, snapshot_answer, listen_answer};
 ghost use Rattle.update_core.specs.Frontiers.{is_at};
-ghost use Rattle.update_core.specs.Updates.{sum_of, weight_of};
-ghost use Rattle.persist_app.specs.PlainRuns.{append_reply, append_text, collection_after, is_outside, snapshot_text};
+ghost use Rattle.update_core.specs.Updates.{slice_of, sum_of, weight_of};
+ghost use Rattle.persist_app.specs.PlainRuns.{append_reply, append_text, collection_after, is_outside, listen_text, since_reply, snapshot_text};
 ghost use Rattle.persist_app.specs.StoreTurns.{Extends, StoreFailed, Turns};
-ghost use Rattle.persist_app.specs.PartRuns.{Keeps, Sums, Stands, nothing_kept, with_parts};
+ghost use Rattle.persist_app.specs.PartRuns.{Keeps, Sums, Stands, kept_since, nothing_kept, with_parts};
 
-use crate::collections::{MAX_WEIGHT, first_outside};
+use crate::collections::{MAX_WEIGHT, both_closed, first_outside, passes};
 use crate::kept_appends::KeptAppend;
-use crate::part_reads::read_until;
+use crate::part_reads::read_wanted;
 use crate::part_writes::{encode_parts, set_parts};
 use crate::parts_faults::PartsFault;
+use crate::wanted_appends::Wanted;
 use feed_text::RunReply;
 use std::alloc::Global;
 use std::marker::Model;
 use store_core::{Bytes, Store};
-use update_core::{FeedAppend, Frontier, RowList, UpdateList, consolidate, sum_at, weight};
+use update_core::{
+    FeedAppend, Frontier, RowList, UpdateList, consolidate, slice_between, sum_at, weight,
+};
 
 /// A collection whose accepted updates lie in a store, as parts. In memory it keeps where they lie. See
 /// docs/DEFINITIONS.md, "The plain collection".
@@ -42,12 +45,27 @@ impl Model for PartCollection {
 
 // The content at a time, where the rows aren't too heavy.
 fn sum_where_light(alloc: Global, rows: &UpdateList, t: u64) -> Result<RowList, PartsFault>
-    ensures { Sums rows.now t result }
+    ensures { Sums rows.now (sum_of rows.now t) result }
 {
     if weight(rows) > MAX_WEIGHT {
         return Err(PartsFault::Damaged);
     }
     Ok(sum_at(alloc, rows, t)?)
+}
+
+// The updates from a frontier on that another covers, where the rows aren't too heavy.
+fn slice_where_light(
+    alloc: Global,
+    rows: &UpdateList,
+    from: Frontier,
+    to: Frontier,
+) -> Result<UpdateList, PartsFault>
+    ensures { Sums rows.now (slice_of rows.now from to) result }
+{
+    if weight(rows) > MAX_WEIGHT {
+        return Err(PartsFault::Damaged);
+    }
+    Ok(slice_between(alloc, rows, from, to)?)
 }
 
 // Whether the upper is at a lower time.
@@ -134,7 +152,7 @@ impl PartCollection {
     ) -> Result<(), PartsFault>
         requires { self.old.weight + weight ≤ 2 ^ 62 }
         ensures told { OnOk result (Turns (S.history store.old) (S.history store.new) (λ s t. t ≡ with_parts s (length self.old.appends + 1) 0 parts.items)) }
-        ensures kept { OnOk result (self.new ≡ record { appends = self.old.appends ++ record { lower = lower; parts = length parts.items } ∷ []; since = self.old.since; upper = upper; weight = self.old.weight + weight }) }
+        ensures kept { OnOk result (self.new ≡ record { appends = self.old.appends ++ record { lower = lower; upper = upper; parts = length parts.items } ∷ []; since = self.old.since; upper = upper; weight = self.old.weight + weight }) }
         ensures grows { Extends (S.history store.old) (S.history store.new) }
         ensures failed { result ≡ Err PartsFault.Store → StoreFailed (S.history store.new) (S.faults store.old) (S.faults store.new) }
         ensures undamaged { result ≡ Err PartsFault.Damaged → ⊥ }
@@ -144,6 +162,7 @@ impl PartCollection {
         let token = self.appends.len() as u64 + 1;
         let kept = KeptAppend {
             lower,
+            upper,
             parts: parts.len() as u64,
         };
         set_parts(store, token, parts)?;
@@ -173,8 +192,50 @@ impl PartCollection {
         if !self.upper.covers(t) {
             return Ok(RunReply::Late { upper: self.upper });
         }
-        let rows = read_until(alloc, store, &self.appends, t)?;
+        let rows = read_wanted(alloc, store, &self.appends, &Wanted::Until(t))?;
         let content = sum_where_light(alloc, &rows, t)?;
         Ok(RunReply::Rows(content))
+    }
+
+    /// The updates from a frontier up to the upper; early where the since is from the frontier on, ended where both are
+    /// Closed, quiet where the upper isn't past the frontier. It reads the parts of the appends whose upper is past the
+    /// frontier, and no other.
+    pub fn listen<S: Store>(
+        &self,
+        alloc: Global,
+        store: &mut S,
+        from: Frontier,
+    ) -> Result<RunReply, PartsFault>
+        ensures told { Turns (S.history store.old) (S.history store.new) (λ s u. (c : Collection) → Stands s self.now c → Keeps (listen_text (listen_answer c from)) c u self.now result) }
+        ensures failed { result ≡ Err PartsFault.Store → StoreFailed (S.history store.new) (S.faults store.old) (S.faults store.new) }
+        ensures later { S.faults store.old ≤ S.faults store.new }
+    {
+        if from.reaches(self.since) {
+            return Ok(RunReply::Early { since: self.since });
+        }
+        if both_closed(from, self.upper) {
+            return Ok(RunReply::Ended);
+        }
+        if !passes(self.upper, from) {
+            return Ok(RunReply::Quiet { upper: self.upper });
+        }
+        let rows = read_wanted(alloc, store, &self.appends, &Wanted::From(from))?;
+        let updates = slice_where_light(alloc, &rows, from, self.upper)?;
+        Ok(RunReply::Step {
+            updates,
+            upper: self.upper,
+        })
+    }
+
+    /// Moves the since to this time, where that isn't below it. It is the since of the one reader, the caller's.
+    pub fn advance(&mut self, to: u64) -> RunReply
+        ensures reply { result ≡ since_reply self.old.since to }
+        ensures kept { self.new ≡ kept_since self.old to }
+    {
+        if to < self.since {
+            return RunReply::Back { since: self.since };
+        }
+        self.since = to;
+        RunReply::Accepted
     }
 }

@@ -1,12 +1,13 @@
 // Reading of parts from a store.
-ghost use Rattle.std.specs.Prelude.{◌≡◌, ◌≤◌, nat_le, if◌then◌else◌, Some, [], IfOk, OnErr, Option, List, ℕ};
+ghost use Rattle.std.specs.Prelude.{◌≡◌, ◌≤◌, if◌then◌else◌, Some, [], IfOk, OnErr, Option, List, ℕ};
 ghost use Rattle.store_core.specs.declared.part_keys.PartKey.{PartKey as Key};
 ghost use Rattle.store_core.specs.Histories.{IsReplyTo};
 ghost use Rattle.persist_app.specs.StoreTurns.{StoreFailed, Turns};
-ghost use Rattle.persist_app.specs.PartRuns.{Brings, Finds, append_rows, part_key, part_of, parts_rows, rows_until};
+ghost use Rattle.persist_app.specs.PartRuns.{Brings, Finds, append_rows, part_key, part_of, parts_rows, is_wanted, rows_wanted};
 
 use crate::kept_appends::KeptAppend;
 use crate::parts_faults::PartsFault;
+use crate::wanted_appends::Wanted;
 use part_codec::{PartFault, decode_part};
 use std::alloc::Global;
 use store_core::{Bytes, Call, PartKey, Reply, ShardId, Store};
@@ -105,39 +106,39 @@ fn read_append<S: Store>(
     Ok(rows)
 }
 
-// The rows of an append whose lower isn't above t; of another none is read.
+// The rows of an append that is wanted; of another none is read.
 fn read_kept<S: Store>(
     alloc: Global,
     store: &mut S,
     token: u64,
-    kept: KeptAppend,
-    t: u64,
+    kept: &KeptAppend,
+    wanted: &Wanted,
 ) -> Result<UpdateList, PartsFault>
-    ensures told { Turns (S.history store.old) (S.history store.new) (λ s u. (u ≡ s) × Finds (if nat_le kept.lower t then append_rows s token kept else Some []) result) }
+    ensures told { Turns (S.history store.old) (S.history store.new) (λ s u. (u ≡ s) × Finds (if is_wanted wanted.now kept.now then append_rows s token kept.now else Some []) result) }
     ensures failed { result ≡ Err PartsFault.Store → StoreFailed (S.history store.new) (S.faults store.old) (S.faults store.new) }
     ensures later { S.faults store.old ≤ S.faults store.new }
 {
-    if kept.lower <= t {
+    if wanted.has(kept) {
         return read_append(alloc, store, token, kept.parts);
     }
     Ok(UpdateList::new(alloc))
 }
 
-/// The rows of the appends whose lower isn't above t. No other part is read.
-pub fn read_until<S: Store>(
+/// The rows of the appends that are wanted. No other part is read.
+pub fn read_wanted<S: Store>(
     alloc: Global,
     store: &mut S,
     appends: &[KeptAppend],
-    t: u64,
+    wanted: &Wanted,
 ) -> Result<UpdateList, PartsFault>
-    ensures told { Turns (S.history store.old) (S.history store.new) (λ s u. (u ≡ s) × Finds (rows_until t s 1 appends.now) result) }
+    ensures told { Turns (S.history store.old) (S.history store.new) (λ s u. (u ≡ s) × Finds (rows_wanted wanted.now s 1 appends.now) result) }
     ensures failed { result ≡ Err PartsFault.Store → StoreFailed (S.history store.new) (S.faults store.old) (S.faults store.new) }
     ensures later { S.faults store.old ≤ S.faults store.new }
 {
     let mut rows = UpdateList::new(alloc);
     let mut token = 1;
     for kept in appends {
-        let more = read_kept(alloc, store, token, *kept, t)?;
+        let more = read_kept(alloc, store, token, kept, wanted)?;
         rows.append(more)?;
         token += 1;
     }

@@ -20,6 +20,7 @@ use feed_text::{
 use std::alloc::Global;
 use std::collections::VecDeque;
 use store_core::Store;
+use update_core::Frontier;
 
 // The reply to one command.
 fn answer<S: Store>(
@@ -35,6 +36,8 @@ fn answer<S: Store>(
     match line {
         FeedLine::Append(append) => collection.append(alloc, store, append),
         FeedLine::Snapshot { t } => collection.snapshot(alloc, store, t),
+        FeedLine::Listen { t } => collection.listen(alloc, store, Frontier::after(t)),
+        FeedLine::Since { to } => Ok(collection.advance(to)),
     }
 }
 

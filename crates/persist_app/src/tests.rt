@@ -5,6 +5,7 @@ use feed_text::{Feed, FeedLine, MemSink, MemSource, RunReply, parse_feed, print_
 use std::alloc::{AllocError, Global};
 use std::test::Fail;
 use store_core::{Bytes, Call, Entry, FaultAt, FaultList, MemStore, PartKey, ShardId, Store};
+use update_core::Frontier;
 
 fn numbers(alloc: Global, items: &[u64]) -> Result<NumberList, AllocError> {
     let mut numbers = NumberList::new(alloc);
@@ -71,6 +72,8 @@ fn plain_reply(
     match line {
         FeedLine::Append(append) => collection.append(alloc, append),
         FeedLine::Snapshot { t } => collection.snapshot(alloc, t),
+        FeedLine::Listen { t } => collection.listen(alloc, Frontier::after(t)),
+        FeedLine::Since { to } => Ok(collection.advance(to)),
     }
 }
 
@@ -149,6 +152,42 @@ fn feeds_are_answered(rt: HostRuntime) -> Result<(), Fail> {
             b"append 0 5\n1 -2 b\n1 1 a b\n2 -1 B\n.\nsnapshot 4\n".as_slice(),
             0,
             b"ok\n-1 B\n1 a b\n-2 b\n.\n".as_slice(),
+        ),
+        (
+            "a listen of a moved frontier",
+            b"append 0 10\n3 1 apple\n4 1 pear\n7 -1 apple\n.\nlisten 3\nappend 10 15\n12 2 apple\n10 1 fig\n.\nlisten 9\nlisten 6\n".as_slice(),
+            0,
+            b"ok\n4 1 pear\n7 -1 apple\nupto 10\nok\n10 1 fig\n12 2 apple\nupto 15\n7 -1 apple\n10 1 fig\n12 2 apple\nupto 15\n".as_slice(),
+        ),
+        (
+            "a listen with nothing past its frontier is quiet",
+            b"listen 0\nappend 0 10\n3 1 a\n.\nlisten 9\nlisten 50\nlisten 8\n".as_slice(),
+            0,
+            b"quiet 0\nok\nquiet 10\nquiet 10\nupto 10\n".as_slice(),
+        ),
+        (
+            "a listen after the last time is quiet, then ended, and never early",
+            b"listen 18446744073709551615\nappend 0 5\n.\nsince 18446744073709551615\nlisten 18446744073709551615\nappend 5 closed\n6 1 a\n.\nlisten 18446744073709551615\nlisten 18446744073709551614\n".as_slice(),
+            0,
+            b"quiet 0\nok\nok\nquiet 5\nok\nended\nearly 18446744073709551615\n".as_slice(),
+        ),
+        (
+            "early, and a step from the since on, up to closed",
+            b"append 0 closed\n3 1 b\n3 1 a\n4 2 a\n5 -1 c\n.\nsince 4\nlisten 3\nlisten 2\nlisten 4\nsnapshot 3\nsnapshot 4\n".as_slice(),
+            0,
+            b"ok\nok\nearly 4\nearly 4\n5 -1 c\nupto closed\nearly 4\n3 a\n1 b\n.\n".as_slice(),
+        ),
+        (
+            "a since that isn't below, and one that is",
+            b"since 0\nsince 6\nsince 6\nsince 5\nsnapshot 5\nsnapshot 6\nsince 7\nsince 0\n".as_slice(),
+            0,
+            b"ok\nok\nok\nback 6\nearly 6\nlate 0\nok\nback 7\n".as_slice(),
+        ),
+        (
+            "updates of a step that cancel, over two appends",
+            b"append 0 5\n1 1 a\n3 1 b\n.\nappend 5 9\n5 1 a\n5 -1 a\n6 1 c\n.\nlisten 0\n".as_slice(),
+            0,
+            b"ok\nok\n1 1 a\n3 1 b\n6 1 c\nupto 9\n".as_slice(),
         ),
         (
             "no command line",
@@ -297,6 +336,18 @@ fn parts_lie_under_their_keys(rt: HostRuntime) -> Result<(), Fail> {
                 (true, 2, 0),
                 (false, 1, 0),
                 (false, 1, 0),
+                (false, 2, 0),
+            ]
+            .as_slice(),
+        ),
+        (
+            "only the appends whose upper is past the frontier are read",
+            b"append 0 5\n2 1 a\n.\nappend 5 9\n5 1 b\n.\nlisten 3\nlisten 4\nlisten 8\nsince 9\nlisten 7\n".as_slice(),
+            [
+                (true, 1, 0),
+                (true, 2, 0),
+                (false, 1, 0),
+                (false, 2, 0),
                 (false, 2, 0),
             ]
             .as_slice(),

@@ -39,6 +39,18 @@ loop-line-preserved-in_ok-put_all g c =
       calls = omega (arith, c.loop-line.invariant.calls, c.answer.ensures.later);
     }
 
+pub loop-line-preserved-in_ok-put_all-2 : goal.loop-line-preserved-in_ok-put_all-2
+loop-line-preserved-in_ok-put_all-2 g c =
+    let history = g.S.Store.history in
+    let taken = g.Si.Sink.taken in
+    let reply = c.in_ok-reply.reply in
+    let text_is : c.deref.result.now ≡ reply_text reply = c.deref.ensures.value ∙ c.in_ok-print_reply.ensures.ok ∙ ap (λ t. t ++ reply_text reply) c.clear.ensures.items in
+    record {
+      over = run_over_goes_on (history c.args.store.now) (history c.loop-line.store) (history c.answer.new.store) (taken c.args.out.now) (taken c.loop-line.out) (taken c.put_all.new.sink) c.from-lines.result.items c.loop-line.lines.items c.pop_front.new.self.items c.loop-line.collection c.answer.new.collection c.in-Some.line reply c.deref.result.now c.in-Some.ensures.items c.loop-line.invariant.over c.in_ok-reply.ensures.told text_is c.in_ok-put_all.ensures.ok;
+      later = omega (arith, c.loop-line.invariant.later, c.put_all.ensures.later);
+      calls = omega (arith, c.loop-line.invariant.calls, c.answer.ensures.later);
+    }
+
 pub loop-line-preserved : goal.loop-line-preserved
 loop-line-preserved g c =
     let history = g.S.Store.history in
