@@ -97,9 +97,6 @@ stored_now k b store call outcome h =
     (e, subst (λ (c : Call). (after_outcome store c outcome).blobs k ≡ Some b) (sym e) (stored-took k b store outcome (subst (λ (c : Call). IsStored k b c (reply_by store c outcome)) e h)))
 
 module _ (start : Stored) (shard : ShardId) (start_member : ℕ) (begin : Begins start shard start_member) where
-  abbrev Mine : List Entry → ℕ → List Answered
-  Mine es c = mine_back start es c
-
   abbrev pub Owned : List Entry → ℕ → PartKey → Type 0
   Owned es c k = Owns (mine_back start es c) shard k.member
 

@@ -196,9 +196,6 @@ commits_next log None z h =
     omega arith
 commits_next log (Some n) z h = commits_some log n h
 
-pub commits_none : (log : Log) → commits log None ≡ true → log.versions ≡ []
-commits_none log h = last_none_empty log (sym (commits_last log None h))
-
 -- ---- what is shown
 
 numbered-there : (first : ℕ) (vs : List (List ℕ)) (n : ℕ) (b : List ℕ) → Among (λ v. (v.number ≡ n) × (v.bytes ≡ b)) (numbered first vs) → bytes_from first vs n ≡ Some b

@@ -1,8 +1,6 @@
 -- In a lawful history the versions that ever were make a chain, and each member has one owner at most.
 use Rattle.std.proofs.Common.{◌≡◌, ℕ, ◌+◌, ◌<◌, ◌≤◌, true, List, [], ◌∷◌, ◌⊎◌, inl, inr, refl, arith, subst, sym, ap, ◌∙◌, Some, Option}
-use Rattle.state_core.specs.Lists.{Among}
 use Rattle.store_core.specs.declared.shards.ShardId.{ShardId}
-use Rattle.store_core.specs.declared.part_keys.PartKey.{PartKey}
 use Rattle.store_core.specs.declared.calls.Call.TheVariants as calls
 use Rattle.store_core.specs.declared.entries.Entry.{Entry}
 use Rattle.store_core.specs.Stores.{Log, Stored, no_log, next_number, committed}
@@ -15,7 +13,7 @@ use Rattle.state_core.specs.States.{ShardState}
 use Rattle.state_core.specs.Steps.{Applies, init}
 use Rattle.state_core.specs.Versions.{version_in}
 use Rattle.history_core.specs.Histories.{commits, ever}
-use Rattle.history_core.specs.Discipline.{IsJoin, Owns, IsCasUnder, Allows, LawfulBack}
+use Rattle.history_core.specs.Discipline.{IsJoin, Owns, Allows, LawfulBack}
 use Rattle.history_core.specs.Stands.{VersionIs, StateIn, end_of, IsLast, IsChain, KeysIn}
 use Rattle.state_core.proofs.Keys.{next_rises}
 use Rattle.history_core.proofs.Entries.{LogStep, idle, cuts, adds, log_step, among_mine, lawful_newest, lawful_older}
@@ -174,11 +172,3 @@ module _ (start : Stored) (shard : ShardId) (z : (start.logs shard).versions ≡
           | inr a ↦ before.new c m a
         ];
       }
-
-  -- the entry is a Cas under the key's member and token
-  abbrev pub CasOf : PartKey → Answered → Type 0
-  CasOf key o = IsCasUnder shard key.member key.token o.entry.call
-
-  -- some client that owns the key's member has made a Cas under its member and token
-  abbrev pub Added : List Entry → PartKey → Type 0
-  Added es key = (c : ℕ) × Among (CasOf key) (mine_back start es c) × Owns (mine_back start es c) shard key.member
