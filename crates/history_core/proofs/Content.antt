@@ -43,17 +43,20 @@ module _ (start : Stored) (shard : ShardId) (start_member : ℕ) (begin : Begins
           let a : end_of (committed log bytes) ≡ 0 = ap end_of q in
           let b : end_of (committed log bytes) ≡ end_of log + 1 = end_of-committed log bytes in omega arith
 
-      idle_list : ever start shard (e ∷ es) ≡ ever start shard es → (ever start shard es ≡ no_log → accepted shard list start es ≡ []) → accepted shard list start (e ∷ es) ≡ []
+      idle_list : ever start shard (e ∷ es) ≡ ever start shard es →
+          (ever start shard es ≡ no_log → accepted shard list start es ≡ []) → accepted shard list start (e ∷ es) ≡ []
       idle_list q older = rw (appended_idle (replay_back start es) shard e e.call (ever start shard es) q) (append-nil (accepted shard list start es) ∙ older (sym q ∙ h))
 
-      go : Turn start shard e es → (ever start shard es ≡ no_log → accepted shard list start es ≡ []) → accepted shard list start (e ∷ es) ≡ []
+      go : Turn start shard e es → (ever start shard es ≡ no_log → accepted shard list start es ≡ []) →
+          accepted shard list start (e ∷ es) ≡ []
       go (still q r) older = idle_list q older
       go (shorter below c q r) older = idle_list q older
       go (begins expected bytes c f q r) older = absurd (grown_full (ever start shard es) bytes (sym q ∙ h))
       go (grows expected bytes c t k b q r) older = absurd (grown_full (ever start shard es) bytes (sym q ∙ h))
 
   -- in each lawful history the batches hold the accepted list
-  pub contained : Contained shard (start.logs shard) start list → (es : List Entry) → LawfulBack start es → Contained shard (ever start shard es) (replay_back start es) (accepted shard list start es)
+  pub contained : Contained shard (start.logs shard) start list → (es : List Entry) → LawfulBack start es →
+      Contained shard (ever start shard es) (replay_back start es) (accepted shard list start es)
   contained p [] l = p
   contained p (e ∷ es) l =
       let before = lawful_older start e es l in

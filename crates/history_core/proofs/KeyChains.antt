@@ -79,7 +79,8 @@ module _ (shard : ShardId) (log : Log) (bytes : List ℕ) (c : Commit shard log 
   }
 
 -- the log of a shard's first version has that one alone
-pub only_first : (shard : ShardId) (bytes : List ℕ) → version_in shard 0 bytes ≡ Some (init shard, Init) → (n : ℕ) (s : ShardState) (x : Transition) → VersionIs shard (committed no_log bytes) n s x → (init shard ≡ s) × (Init ≡ x)
+pub only_first : (shard : ShardId) (bytes : List ℕ) → version_in shard 0 bytes ≡ Some (init shard, Init) →
+    (n : ℕ) (s : ShardState) (x : Transition) → VersionIs shard (committed no_log bytes) n s x → (init shard ≡ s) × (Init ≡ x)
 only_first shard bytes d n s x h = elim (either_version shard no_log bytes n s x h) [
   | inl g ↦ cc
   | inr g ↦
@@ -89,7 +90,8 @@ only_first shard bytes d n s x h = elim (either_version shard no_log bytes n s x
 ]
 
 -- Init names and takes no key
-pub keys_first : (shard : ShardId) (bytes : List ℕ) → version_in shard 0 bytes ≡ Some (init shard, Init) → KeysIn shard (committed no_log bytes) (init shard)
+pub keys_first : (shard : ShardId) (bytes : List ℕ) → version_in shard 0 bytes ≡ Some (init shard, Init) →
+    KeysIn shard (committed no_log bytes) (init shard)
 keys_first shard bytes d = record {
   named = λ n s k h named. absurd (subst (λ (t : ShardState). Names t k) (sym (only_first shard bytes d n s h.0 h.1).0) named);
   taken = λ n k t. absurd (subst (λ (y : Transition). Takes y k) (sym (only_first shard bytes d n t.0 t.1 t.2).1) t.3);

@@ -42,7 +42,8 @@ sound_kept shard log start_member k = record {
 }
 
 -- the track of a log that stands is sound
-pub sound_of : (shard : ShardId) (log : Log) (start_member : ℕ) → Standing shard log start_member → Sound shard (track_of shard log)
+pub sound_of : (shard : ShardId) (log : Log) (start_member : ℕ) → Standing shard log start_member →
+    Sound shard (track_of shard log)
 sound_of shard log start_member (inl p) = record {
   rules = λ n s h. absurd (state_none shard log n s p.0 h);
   of_shard = λ n s h. absurd (state_none shard log n s p.0 h);
@@ -70,10 +71,13 @@ module _ (start : Stored) (shard : ShardId) (start_member : ℕ) (begin : Begins
       before : LawfulBack start es
       before = lawful_older start e es l
 
-      on : (log : Log) → live start shard (e ∷ es) ≡ log → (n : ℕ) (b : List ℕ) → version_at log n ≡ Some b → Lives start shard (e ∷ es) n
+      on : (log : Log) → live start shard (e ∷ es) ≡ log → (n : ℕ) (b : List ℕ) → version_at log n ≡ Some b →
+          Lives start shard (e ∷ es) n
       on log r n b h = (b, subst (λ (g : Log). version_at g n ≡ Some b) (sym r) h)
 
-      moves : Turn start shard e es → Move shard (ever_track start shard es) (ever_track start shard (e ∷ es)) (replay_back start es) (replay_back start (e ∷ es)) (mine_back start es e.client) (Lives start shard es) (Lives start shard (e ∷ es)) (appended (replay_back start es) shard e e.call)
+      moves : Turn start shard e es → Move shard (ever_track start shard es) (ever_track start shard (e ∷ es))
+          (replay_back start es) (replay_back start (e ∷ es)) (mine_back start es e.client) (Lives start shard es)
+          (Lives start shard (e ∷ es)) (appended (replay_back start es) shard e e.call)
       moves (log_still q r) = still (ap (track_of shard) q) (λ n lives. on (live start shard es) r n lives.0 lives.1) (appended_idle (replay_back start es) shard e e.call (ever start shard es) q)
       moves (shorter below c q r) =
           let w = truncate_covered start shard begin.first es e.client below (subst (Allows (mine_back start es e.client)) c (lawful_newest start e es l)) in
@@ -114,7 +118,8 @@ module _ (start : Stored) (shard : ShardId) (start_member : ℕ) (begin : Begins
           (on (committed (live start shard es) bytes) r (m.n + 1) bytes (subst (λ (j : ℕ). version_at (committed (live start shard es) bytes) j ≡ Some bytes) at_end (committed_new (live start shard es) bytes)))
           (appended_grown (replay_back start es) shard e e.call expected m.n bytes m.to m.step c b.number t k m.written)
 
-      bytes_move : (k : PartKey) → k.shard ≡ shard → BlobStep k (replay_back start es) e.call e.outcome → KeyMove (ever_track start shard es) (replay_back start es) (replay_back start (e ∷ es)) k
+      bytes_move : (k : PartKey) → k.shard ≡ shard → BlobStep k (replay_back start es) e.call e.outcome →
+          KeyMove (ever_track start shard es) (replay_back start es) (replay_back start (e ∷ es)) k
       bytes_move k here (same_bytes q) = same q
       bytes_move k here (set bytes c q) =
           unnamed (λ n s h. set_unnamed start shard start_member begin es before e.client k bytes here (allowed_set start shard start_member begin e es k bytes l c) n s h)

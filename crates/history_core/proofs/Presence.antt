@@ -21,11 +21,13 @@ Present shard all store = PresentOn (track_of shard all) (λ n. (b : List ℕ) �
 
 module _ (start : Stored) (shard : ShardId) (start_member : ℕ) (begin : Begins start shard start_member) where
   -- where there is a state there is a chain
-  pub kept_at : (es : List Entry) → LawfulBack start es → (n : ℕ) (s : ShardState) → StateIn shard (ever start shard es) n s → Kept shard (ever start shard es) start_member
+  pub kept_at : (es : List Entry) → LawfulBack start es → (n : ℕ) (s : ShardState) → StateIn shard (ever start shard es) n s →
+      Kept shard (ever start shard es) start_member
   kept_at es l n s h = elim (stands_at start shard start_member begin es l) [ inl p ↦ absurd (state_none shard (ever start shard es) n s p.0 h) | inr k ↦ k ]
 
   -- in each lawful history the versions from the floor on are live and their keys are there
-  pub presence : Present shard (start.logs shard) start → (es : List Entry) → LawfulBack start es → Present shard (ever start shard es) (replay_back start es)
+  pub presence : Present shard (start.logs shard) start → (es : List Entry) → LawfulBack start es →
+      Present shard (ever start shard es) (replay_back start es)
   presence p [] l = p
   presence p (e ∷ es) l =
       let before = lawful_older start e es l in

@@ -38,13 +38,15 @@ abbrev pub Standing : ShardId → Log → ℕ → Type 0
 Standing shard log start_member = ((log ≡ no_log) × (start_member ≡ 0)) ⊎ Kept shard log start_member
 
 -- the version before a commit is the newest
-pub from_last : (shard : ShardId) (log : Log) (start_member : ℕ) (bytes : List ℕ) (k : Kept shard log start_member) (c : Commit shard log bytes) → (c.n ≡ k.number) × (k.last ≡ c.from)
+pub from_last : (shard : ShardId) (log : Log) (start_member : ℕ) (bytes : List ℕ) (k : Kept shard log start_member)
+    (c : Commit shard log bytes) → (c.n ≡ k.number) × (k.last ≡ c.from)
 from_last shard log start_member bytes k c =
     let e : c.n ≡ k.number = (let a : (c.n + 1) ≡ end_of log = c.last in let b : (k.number + 1) ≡ end_of log = k.newest in omega arith) in
     let s2 = subst (λ (j : ℕ). StateIn shard log j c.from) e c.from_is in
     (e, (one_state shard log k.number k.last c.from k.state.0 s2.0 k.state.1 s2.1).0)
 
-pub kept_commit : (shard : ShardId) (log : Log) (start_member : ℕ) (bytes : List ℕ) → Kept shard log start_member → Commit shard log bytes → Kept shard (committed log bytes) start_member
+pub kept_commit : (shard : ShardId) (log : Log) (start_member : ℕ) (bytes : List ℕ) → Kept shard log start_member →
+    Commit shard log bytes → Kept shard (committed log bytes) start_member
 kept_commit shard log start_member bytes k c =
     let (e, same) = from_last shard log start_member bytes k c in
     let up : c.from.next_member ≤ c.to.next_member = next_rises c.from c.to c.step c.applies in
@@ -60,7 +62,8 @@ kept_commit shard log start_member bytes k c =
       bound = omega arith;
     }
 
-pub kept_first : (shard : ShardId) (start_member : ℕ) (bytes : List ℕ) → start_member ≡ 0 → version_in shard 0 bytes ≡ Some (init shard, Init) → Kept shard (committed no_log bytes) start_member
+pub kept_first : (shard : ShardId) (start_member : ℕ) (bytes : List ℕ) → start_member ≡ 0 →
+    version_in shard 0 bytes ≡ Some (init shard, Init) → Kept shard (committed no_log bytes) start_member
 kept_first shard start_member bytes zero_start d = record {
   number = 0;
   last = init shard;
@@ -76,10 +79,12 @@ module _ (start : Stored) (shard : ShardId) (z : (start.logs shard).versions ≡
   pub no_version : (log : Log) (n : ℕ) (s : ShardState) (x : Transition) → log ≡ no_log → VersionIs shard log n s x → ⊥
   no_version log n s x e h = let g = subst (λ (l : Log). VersionIs shard l n s x) e h in cc
 
-  pub standing_step : (e : Entry) (es : List Entry) → LawfulBack start (e ∷ es) → Standing shard (ever start shard es) start_member → Standing shard (ever start shard (e ∷ es)) start_member
+  pub standing_step : (e : Entry) (es : List Entry) → LawfulBack start (e ∷ es) →
+      Standing shard (ever start shard es) start_member → Standing shard (ever start shard (e ∷ es)) start_member
   standing_step e es l st = go (log_step shard (replay_back start es) e.call e.outcome)
     where
-      add : (expected : Option ℕ) (bytes : List ℕ) → e.call ≡ calls.Cas shard expected bytes → commits (live start shard es) expected ≡ true → Standing shard (committed (ever start shard es) bytes) start_member
+      add : (expected : Option ℕ) (bytes : List ℕ) → e.call ≡ calls.Cas shard expected bytes →
+          commits (live start shard es) expected ≡ true → Standing shard (committed (ever start shard es) bytes) start_member
       add expected bytes c k =
           elim (commit_of start shard z es e.client expected bytes k (subst (Allows (mine_back start es e.client)) c (lawful_newest start e es l))) [
             | inl f ↦ elim st [
@@ -98,11 +103,13 @@ module _ (start : Stored) (shard : ShardId) (z : (start.logs shard).versions ≡
       go (adds expected bytes c t k q g) = subst (λ (q : Log). Standing shard q start_member) (sym (g (ever start shard es))) (add expected bytes c k)
 
   -- in each lawful history the versions make a chain, and its keys are kept
-  pub standing : (es : List Entry) → LawfulBack start es → Standing shard (start.logs shard) start_member → Standing shard (ever start shard es) start_member
+  pub standing : (es : List Entry) → LawfulBack start es → Standing shard (start.logs shard) start_member →
+      Standing shard (ever start shard es) start_member
   standing [] l st = st
   standing (e ∷ es) l st = standing_step e es l (standing es (lawful_older start e es l) st)
 
-  pub owns_below : (es : List Entry) (k : Kept shard (ever start shard es) start_member) (c m : ℕ) → Owns (mine_back start es c) shard m → m < k.last.next_member
+  pub owns_below : (es : List Entry) (k : Kept shard (ever start shard es) start_member) (c m : ℕ) →
+      Owns (mine_back start es c) shard m → m < k.last.next_member
   owns_below es k c m o =
       let (n, s, x, is, number) = owned_version start shard z es c m o in
       let (low, high) = version_below shard (ever start shard es) n s x is in
@@ -113,7 +120,9 @@ module _ (start : Stored) (shard : ShardId) (z : (start.logs shard).versions ≡
       omega arith
 
   -- who joins takes the newest state's next member
-  new_owner : (e : Entry) (es : List Entry) → LawfulBack start (e ∷ es) → (st : Standing shard (ever start shard es) start_member) (m : ℕ) → IsJoin shard m e.call (reply_by (replay_back start es) e.call e.outcome) →
+  new_owner : (e : Entry) (es : List Entry) → LawfulBack start (e ∷ es) →
+      (st : Standing shard (ever start shard es) start_member) (m : ℕ) →
+      IsJoin shard m e.call (reply_by (replay_back start es) e.call e.outcome) →
       (k : Kept shard (ever start shard es) start_member) × (k.last.next_member ≡ m)
   new_owner e es l st m j =
       let w = joined shard (replay_back start es) e.call e.outcome m j in
@@ -123,7 +132,7 @@ module _ (start : Stored) (shard : ShardId) (z : (start.logs shard).versions ≡
             let at_zero : next_number w.expected ≡ 0 = ap next_number f.none in
             let r2 : version_in shard 0 w.bytes ≡ Some (s, Join kind now lease) = subst (λ (j2 : ℕ). version_in shard j2 w.bytes ≡ Some (s, Join kind now lease)) at_zero reads in
             let r3 = f.first in
-            let e2 : (init shard, Init) ≡ (s, Join kind now lease) = cc in
+            let e2 : ◌≡◌ {A = ShardState × Transition} (init shard, Init) (s, Join kind now lease) = cc in
             absurd (let e3 : Init ≡ Join kind now lease = ap (λ (p : ShardState × Transition). p.1) e2 in cc)
         | inr b ↦ elim st [
           | inl p ↦ absurd (no_version (ever start shard es) b.commit.n b.commit.from b.commit.from_is.0 p.0 b.commit.from_is.1)
@@ -133,7 +142,7 @@ module _ (start : Stored) (shard : ShardId) (z : (start.logs shard).versions ≡
               let at_end : next_number w.expected ≡ c.n + 1 = ap next_number b.number in
               let r2 : version_in shard (c.n + 1) w.bytes ≡ Some (s, Join kind now lease) = subst (λ (j2 : ℕ). version_in shard j2 w.bytes ≡ Some (s, Join kind now lease)) at_end reads in
               let r3 = c.written in
-              let e2 : (c.to, c.step) ≡ (s, Join kind now lease) = cc in
+              let e2 : ◌≡◌ {A = ShardState × Transition} (c.to, c.step) (s, Join kind now lease) = cc in
               let e3 : c.to ≡ s = ap (λ (p : ShardState × Transition). p.0) e2 in
               let e4 : c.step ≡ Join kind now lease = ap (λ (p : ShardState × Transition). p.1) e2 in
               let a : Applies c.from (Join kind now lease) c.to = subst (λ (y : Transition). Applies c.from y c.to) e4 c.applies in

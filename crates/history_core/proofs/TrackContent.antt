@@ -25,9 +25,12 @@ use Rattle.history_core.proofs.Tracks.{Track, HasState, EndsAt, Sound, Move, sti
 use Rattle.history_core.proofs.TrackPresence.{PresentOn, last_grown, named_stay, added_there}
 
 -- what an allowed transition makes of the content
-pub content_made : (store : Stored) (own : List Answered) (list : List Update) (from to : ShardState) (step : Transition) (rules : IsState from)
-    (held : AllByRecursion (BatchHolds store list) from.batches) (before_upper : AllByRecursion (λ u. covers from.upper u.time ≡ true) list) (light : weight_of list ≤ from.weight) →
-    Applies from step to → Holds own step → ((k : PartKey) (b : List ℕ) → Adds step k → StoredAs own k b → store.blobs k ≡ Some b) →
+pub content_made : (store : Stored) (own : List Answered) (list : List Update) (from to : ShardState) (step : Transition)
+    (rules : IsState from)
+    (held : AllByRecursion (BatchHolds store list) from.batches)
+    (before_upper : AllByRecursion (λ u. covers from.upper u.time ≡ true) list) (light : weight_of list ≤ from.weight) →
+    Applies from step to → Holds own step → ((k : PartKey) (b : List ℕ) → Adds step k → StoredAs own k b →
+    store.blobs k ≡ Some b) →
     ((k : PartKey) (b : List ℕ) → Takes step k → GotAs own k b → store.blobs k ≡ Some b) → Content store list (appended_by store (Some (to, step))) from to
 content_made store own list from to Init rules held before_upper light a h stored got = absurd a.makes
 content_made store own list from to (Join kind now lease) rules held before_upper light a h stored got =
@@ -58,7 +61,8 @@ abbrev pub ContainedOn : Track → Stored → List Update → Type 0
 ContainedOn t store list = (number : ℕ) (last : ShardState) → EndsAt t number → HasState t number last → ContentAt t store list number last
 
 -- what an upper covers the uppers of later states cover
-covers_on : (shard : ShardId) (t : Track) → Sound shard t → (j m n : ℕ) → m ≤ n → (s s2 : ShardState) → HasState t m s → HasState t n s2 → covers s.upper j ≡ true → covers s2.upper j ≡ true
+covers_on : (shard : ShardId) (t : Track) → Sound shard t → (j m n : ℕ) → m ≤ n → (s s2 : ShardState) → HasState t m s →
+    HasState t n s2 → covers s.upper j ≡ true → covers s2.upper j ≡ true
 covers_on shard t sound j m n le s s2 h g c =
     let up : covered s ≤ covered s2 = sound.rises covered rise m n le s s2 h g in
     elim (bool_cases (covers s2.upper j)) [ inl e ↦ e | inr e ↦ absurd (let one : covered s ≡ 1 = rw c refl in let none : covered s2 ≡ 0 = rw e refl in omega arith) ]
@@ -73,7 +77,8 @@ covers_on shard t sound j m n le s s2 h g c =
     ]
 
 -- the batches go on to hold what they did
-batches_on : (store store2 : Stored) (bs : List Batch) (us : List Update) → ((k : PartKey) → Among (λ q. q ≡ k) (keys_of bs) → store2.blobs k ≡ store.blobs k) →
+batches_on : (store store2 : Stored) (bs : List Batch) (us : List Update) →
+    ((k : PartKey) → Among (λ q. q ≡ k) (keys_of bs) → store2.blobs k ≡ store.blobs k) →
     AllByRecursion (BatchHolds store us) bs → AllByRecursion (BatchHolds store2 us) bs
 batches_on store store2 bs us keeps h =
     each_both (λ b. AllByRecursion (λ k. store2.blobs k ≡ store.blobs k) b.parts) (BatchHolds store us) (BatchHolds store2 us) bs (λ b ks g. (g.0, part_rows_on store store2 b.parts g.0 ks g.1, g.2, g.3))

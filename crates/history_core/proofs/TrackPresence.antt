@@ -21,13 +21,15 @@ pub below_or : (m n : ℕ) → (m ≤ n) ⊎ (n < m)
 below_or m n = grind arith
 
 -- each of the keys has bytes that are a part
-hold_at : (P : PartKey → List ℕ → Type 0) (ks : List PartKey) (rows : List Update) (k : PartKey) → Hold P ks rows → Among (λ q. q ≡ k) ks → (b : List ℕ) × (part : List Update) × P k b × (rows_in b ≡ Some part)
+hold_at : (P : PartKey → List ℕ → Type 0) (ks : List PartKey) (rows : List Update) (k : PartKey) → Hold P ks rows →
+    Among (λ q. q ≡ k) ks → (b : List ℕ) × (part : List Update) × P k b × (rows_in b ≡ Some part)
 hold_at P [] rows k h among = absurd among
 hold_at P (q ∷ ks) rows k h (inl e) = (h.0, h.1, subst (λ (a : PartKey). P a h.0) e h.3, h.4)
 hold_at P (q ∷ ks) rows k h (inr among) = hold_at P ks h.2 k h.6 among
 
 -- what a transition adds was stored, and is a part
-added_stored : (own : List Answered) (x : Transition) (k : PartKey) → Holds own x → Adds x k → (b : List ℕ) × (part : List Update) × StoredAs own k b × (rows_in b ≡ Some part)
+added_stored : (own : List Answered) (x : Transition) (k : PartKey) → Holds own x → Adds x k →
+    (b : List ℕ) × (part : List Update) × StoredAs own k b × (rows_in b ≡ Some part)
 added_stored own (Append member token expected new parts rows weight) k h a = hold_at (StoredAs own) parts h.updates k h.hold a
 added_stored own (Merge member token left right merged) k h a = hold_at (StoredAs own) merged.parts h.outputs k h.hold a
 added_stored own Init k h a = absurd a
@@ -50,7 +52,8 @@ abbrev pub PresentOn : Track → (ℕ → Type 0) → Stored → Type 0
 PresentOn t live store = (number : ℕ) (last : ShardState) → EndsAt t number → HasState t number last → PresentAt t live store number last
 
 -- the last version of a longer track is the new one
-pub last_grown : (shard : ShardId) (old new : Track) → Sound shard old → (g : Grown old new) (number : ℕ) (last : ShardState) → EndsAt new number → HasState new number last → (number ≡ g.n + 1) × (last ≡ g.to)
+pub last_grown : (shard : ShardId) (old new : Track) → Sound shard old → (g : Grown old new) (number : ℕ) (last : ShardState) →
+    EndsAt new number → HasState new number last → (number ≡ g.n + 1) × (last ≡ g.to)
 last_grown shard old new sound g number last a h =
     elim (g.after number last h) [
       | inl old_one ↦
@@ -62,7 +65,8 @@ last_grown shard old new sound g number last a h =
 
 module _ (shard : ShardId) (old new : Track) (store store2 : Stored) (own : List Answered) (was is : ℕ → Type 0) (rows : List Update) (sound : Sound shard old) (moved : Moved shard old new store store2 own was is rows) where
   -- a number that was a floor isn't above the last floor
-  floor_past : (number : ℕ) (last : ShardState) → EndsAt old number → HasState old number last → (below : ℕ) → Reached old below → below ≤ floor last
+  floor_past : (number : ℕ) (last : ShardState) → EndsAt old number → HasState old number last → (below : ℕ) →
+      Reached old below → below ≤ floor last
   floor_past number last a h below r =
       let high = sound.below r.m r.s r.state in
       let end : number + 1 ≡ old.next = a in
@@ -71,7 +75,8 @@ module _ (shard : ShardId) (old new : Track) (store store2 : Stored) (own : List
       omega arith
 
   -- an entry leaves the bytes of the keys that versions from the floor on name
-  pub named_stay : (number : ℕ) (last : ShardState) → EndsAt old number → HasState old number last → (n : ℕ) (s : ShardState) (k : PartKey) → floor last ≤ n → HasState old n s → Names s k → store2.blobs k ≡ store.blobs k
+  pub named_stay : (number : ℕ) (last : ShardState) → EndsAt old number → HasState old number last →
+      (n : ℕ) (s : ShardState) (k : PartKey) → floor last ≤ n → HasState old n s → Names s k → store2.blobs k ≡ store.blobs k
   named_stay number last a h n s k le at named = go (moved.bytes k (keys.named n s k at named).of_shard)
     where
       keys : KeysKept shard (HasState old) (TakesAt old) last
@@ -100,7 +105,8 @@ module _ (shard : ShardId) (old new : Track) (store store2 : Stored) (own : List
   present_step older number last a h = go moved.move
     where
       -- nothing is added to the track
-      kept : new ≡ old → ((old_live : (n : ℕ) → floor last ≤ n → n ≤ number → was n) → EndsAt old number → HasState old number last → (n : ℕ) → floor last ≤ n → n ≤ number → is n) → PresentAt new is store2 number last
+      kept : new ≡ old → ((old_live : (n : ℕ) → floor last ≤ n → n ≤ number → was n) → EndsAt old number →
+          HasState old number last → (n : ℕ) → floor last ≤ n → n ≤ number → is n) → PresentAt new is store2 number last
       kept q lives =
           let a2 = subst (λ (t : Track). EndsAt t number) q a in
           let h2 = subst (λ (t : Track). HasState t number last) q h in

@@ -35,7 +35,8 @@ pub state_one : (t : Track) (n : ℕ) (s s2 : ShardState) → HasState t n s →
 state_one t n s s2 h g = let a = h.1 in let b = g.1 in let e : (s, h.0) ≡ (s2, g.0) = cc in ap (λ (p : ShardState × Transition). p.0) e
 
 -- the last version has one state
-pub last_one : (t : Track) (m n : ℕ) (s s2 : ShardState) → EndsAt t m → HasState t m s → EndsAt t n → HasState t n s2 → (m ≡ n) × (s ≡ s2)
+pub last_one : (t : Track) (m n : ℕ) (s s2 : ShardState) → EndsAt t m → HasState t m s → EndsAt t n → HasState t n s2 →
+    (m ≡ n) × (s ≡ s2)
 last_one t m n s s2 a h b g =
     let e : n ≡ m = (let a2 : m + 1 ≡ t.next = a in let b2 : n + 1 ≡ t.next = b in omega arith) in
     (sym e, state_one t m s s2 h (subst (λ (j : ℕ). HasState t j s2) e g))
@@ -47,7 +48,8 @@ pub record Sound (shard : ShardId) (t : Track) : Type 0 where
   pub number : (n : ℕ) (s : ShardState) → HasState t n s → s.number ≡ n
   pub below : (n : ℕ) (s : ShardState) → HasState t n s → n < t.next
   -- what no transition lowers is lowered by no version
-  pub rises : (f : ShardState → ℕ) → ((a b : ShardState) (x : Transition) → Applies a x b → f a ≤ f b) → (m n : ℕ) → m ≤ n → (s s2 : ShardState) → HasState t m s → HasState t n s2 → f s ≤ f s2
+  pub rises : (f : ShardState → ℕ) → ((a b : ShardState) (x : Transition) → Applies a x b → f a ≤ f b) → (m n : ℕ) → m ≤ n →
+      (s s2 : ShardState) → HasState t m s → HasState t n s2 → f s ≤ f s2
   pub keys : (n : ℕ) (s : ShardState) → EndsAt t n → HasState t n s → KeysKept shard (HasState t) (TakesAt t) s
 
 -- one more version, made of the last
@@ -78,9 +80,11 @@ pub record Reached (t : Track) (below : ℕ) : Type 0 where
 -- What an entry does to the track and to what is live, and the rows that it appends to the list.
 pub data Move (shard : ShardId) (old new : Track) (store store2 : Stored) (own : List Answered) (was is : ℕ → Type 0) (rows : List Update) : Type 0 where
   still : new ≡ old → ((n : ℕ) → was n → is n) → rows ≡ [] → Move shard old new store store2 own was is rows
-  cuts : new ≡ old → (below : ℕ) → Reached old below → ((n : ℕ) → below ≤ n → was n → is n) → rows ≡ [] → Move shard old new store store2 own was is rows
+  cuts : new ≡ old → (below : ℕ) → Reached old below → ((n : ℕ) → below ≤ n → was n → is n) → rows ≡ [] →
+      Move shard old new store store2 own was is rows
   begins : Begun shard old new → is 0 → rows ≡ [] → Move shard old new store store2 own was is rows
-  grows : (g : Grown old new) → Holds own g.step → ((k : PartKey) → store2.blobs k ≡ store.blobs k) → ((n : ℕ) → was n → is n) → is (g.n + 1) → rows ≡ appended_by store (Some (g.to, g.step)) →
+  grows : (g : Grown old new) → Holds own g.step → ((k : PartKey) → store2.blobs k ≡ store.blobs k) →
+      ((n : ℕ) → was n → is n) → is (g.n + 1) → rows ≡ appended_by store (Some (g.to, g.step)) →
       Move shard old new store store2 own was is rows
 
 -- What an entry does to the bytes of a key: none, or no version names the key, or one not above a floor that was took it.
@@ -93,5 +97,6 @@ pub data KeyMove (t : Track) (store store2 : Stored) (k : PartKey) : Type 0 wher
 pub record Moved (shard : ShardId) (old new : Track) (store store2 : Stored) (own : List Answered) (was is : ℕ → Type 0) (rows : List Update) : Type 0 where
   pub move : Move shard old new store store2 own was is rows
   pub bytes : (k : PartKey) → k.shard ≡ shard → KeyMove old store store2 k
-  pub stored : (k : PartKey) (b : List ℕ) → k.shard ≡ shard → StoredAs own k b → (store.blobs k ≡ Some b) ⊎ ((n : ℕ) × TakesAt old n k)
+  pub stored : (k : PartKey) (b : List ℕ) → k.shard ≡ shard → StoredAs own k b →
+      (store.blobs k ≡ Some b) ⊎ ((n : ℕ) × TakesAt old n k)
   pub got : (k : PartKey) (b : List ℕ) → k.shard ≡ shard → GotAs own k b → (store.blobs k ≡ None) ⊎ (store.blobs k ≡ Some b)
