@@ -22,10 +22,16 @@ pub mod StateSums
 pub mod PartContents
 pub mod TrackContent
 pub mod Content
+pub mod WalkSteps
+pub mod Walking
 pub mod Bases
 pub mod StandsAfter
 pub mod Stays
 pub mod LawfulLaws
+pub mod AcceptedLaws
+pub mod ExampleStates
+pub mod ExampleParts
+pub mod ExampleLawful
 pub mod AnswerLaws
 pub mod GotLaws
 pub mod SpentLaws
