@@ -4,11 +4,14 @@ pub mod Discipline
 pub mod Stands
 pub mod Questions
 pub mod Walks
+pub mod WalkViews
+pub mod Accepting
 pub mod Laws
 pub mod Worked
 pub mod WorkedTrail
 pub mod WorkedBroken
 pub mod WorkedFailures
 pub mod WorkedCompacted
+pub mod Example
 pub mod Spending
 pub mod Answers
