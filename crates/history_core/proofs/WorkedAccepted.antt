@@ -1,9 +1,11 @@
 -- What the worked history appends, step by step, and the store that it leaves.
 use Rattle.std.proofs.Common.{◌≡◌, Some, None, [], ◌∷◌, refl}
-use Rattle.store_core.specs.Histories.{store_after}
+use Rattle.store_core.specs.Histories.{reply, store_after}
+use Rattle.store_core.specs.declared.calls.Call.TheVariants.{Get}
+use Rattle.store_core.specs.declared.replies.Reply.TheVariants.{Bytes}
 use Rattle.history_core.specs.Stands.{accepted_of}
-use Rattle.history_core.specs.Worked.{the_shard, key, early_row, late_row, merged_part, version8}
-use Rattle.history_core.specs.WorkedTrail.{worked, first_calls}
+use Rattle.history_core.specs.Worked.{the_shard, key, early_row, late_row, early_part, late_part, merged_part, version8}
+use Rattle.history_core.specs.WorkedTrail.{did, worked, first_calls}
 use Rattle.history_core.proofs.WorkedVersions.{reads1, reads2, reads3, reads4, reads5, reads6, reads7, reads8}
 use Rattle.history_core.proofs.WorkedParts.{reads_early, reads_late}
 
@@ -30,3 +32,10 @@ late_gone = refl
 
 pub merged_there : (store_after worked).blobs (key 1 1) ≡ Some merged_part
 merged_there = refl
+
+-- the reader, whose hold stands, still gets what the merge has taken
+pub early_held : reply (store_after (first_calls 17)) (did 2 (Get (key 0 1))) ≡ Bytes (Some early_part)
+early_held = refl
+
+pub late_held : reply (store_after (first_calls 17)) (did 2 (Get (key 0 2))) ≡ Bytes (Some late_part)
+late_held = refl

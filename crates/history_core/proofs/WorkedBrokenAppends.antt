@@ -51,7 +51,8 @@ appends_in_range l =
     let h : AppendHolds (own_of (with_part early_part) 0) 0 (Some 1) (key 0 1 ∷ []) 1 1 =
     subst (Holds (own_of (with_part early_part) 0)) (sym (step_is (one_row_state 1 1) (one_row_to 1 1) reads_short a)) a.holds in
     let us : h.updates ≡ early_row ∷ [] =
-    one_part (StoredAs (own_of (with_part early_part) 0)) (key 0 1) early_part (early_row ∷ []) h.updates (stored_only early_part) reads_early h.hold in
+    one_part (StoredAs (own_of (with_part early_part) 0)) (key 0 1) early_part (early_row ∷ [])
+    h.updates (stored_only early_part) reads_early h.hold in
     one_row_less (subst (λ (rows : List Update). between (Some 0) (Some 1) rows ≡ rows) us h.in_range)
 
 not_some : (rows : List Update) → ◌≡◌ {A = Option (List Update)} None (Some rows) → ⊥
@@ -75,7 +76,8 @@ appends_counted l =
     let h : AppendHolds (own_of (with_part merged_part) 0) 0 (Some 10) (key 0 1 ∷ []) 1 2 =
     subst (Holds (own_of (with_part merged_part) 0)) (sym (step_is (one_row_state 10 2) (one_row_to 10 2) reads_few a)) a.holds in
     let us : h.updates ≡ early_row ∷ late_row ∷ [] =
-    one_part (StoredAs (own_of (with_part merged_part) 0)) (key 0 1) merged_part (early_row ∷ late_row ∷ []) h.updates (stored_only merged_part) reads_merged h.hold in
+    one_part (StoredAs (own_of (with_part merged_part) 0)) (key 0 1) merged_part (early_row ∷ late_row ∷ [])
+    h.updates (stored_only merged_part) reads_merged h.hold in
     two_not_one (subst (λ (rows : List Update). length rows ≡ 1) us h.count)
 
 two_above_one : 2 ≤ 1 → ⊥
@@ -88,5 +90,6 @@ appends_weighed l =
     let h : AppendHolds (own_of (with_part heavy_part) 0) 0 (Some 5) (key 0 1 ∷ []) 1 1 =
     subst (Holds (own_of (with_part heavy_part) 0)) (sym (step_is state4 step4 reads4 a)) a.holds in
     let us : h.updates ≡ heavy_row ∷ [] =
-    one_part (StoredAs (own_of (with_part heavy_part) 0)) (key 0 1) heavy_part (heavy_row ∷ []) h.updates (stored_only heavy_part) reads_heavy h.hold in
+    one_part (StoredAs (own_of (with_part heavy_part) 0)) (key 0 1) heavy_part (heavy_row ∷ [])
+    h.updates (stored_only heavy_part) reads_heavy h.hold in
     two_above_one (subst (λ (rows : List Update). weight_of rows ≤ 1) us h.light)

@@ -60,7 +60,8 @@ pub cas_own : Lawful cas_for_another → ⊥
 cas_own l =
     let a : CasAllowed (own_of (first_calls 17) 1) the_shard 6 version7 =
     last_allowed (first_calls 17) (did 1 (Cas the_shard (Some 6) version7)) l in
-    keeper_is_not_reader (subst (λ (x : Transition). OwnsSome (own_of (first_calls 17) 1) the_shard (acts_for x)) (sym (step_is state7 step7 reads7 a)) a.owned)
+    keeper_is_not_reader (subst (λ (x : Transition). OwnsSome (own_of (first_calls 17) 1) the_shard (acts_for x))
+    (sym (step_is state7 step7 reads7 a)) a.owned)
 
 one_not_three : ◌≡◌ {A = ℕ} 1 3 → ⊥
 one_not_three e = omega arith
@@ -166,7 +167,9 @@ merge_keeps l =
     let h : MergeHolds (own_of with_dropped 1) early_batch late_batch dropping_batch =
     subst (Holds (own_of with_dropped 1)) (sym (step_is dropping_state dropping reads_dropping a)) a.holds in
     let ins : h.inputs ≡ early_row ∷ late_row ∷ [] =
-    two_parts (GotAs (own_of with_dropped 1)) (key 0 1) (key 0 2) early_part late_part (early_row ∷ []) (late_row ∷ []) h.inputs got_early reads_early got_late reads_late h.read in
+    two_parts (GotAs (own_of with_dropped 1)) (key 0 1) (key 0 2) early_part late_part (early_row ∷ []) (late_row ∷ [])
+    h.inputs got_early reads_early got_late reads_late h.read in
     let outs : h.outputs ≡ early_row ∷ [] =
     one_part (StoredAs (own_of with_dropped 1)) (key 1 1) early_part (early_row ∷ []) h.outputs stored_only reads_early h.hold in
-    row_lost (subst (λ (us : List Update). IsCons (moved (early_row ∷ late_row ∷ []) 0) us) outs (subst (λ (us : List Update). IsCons (moved us 0) h.outputs) ins h.cons))
+    row_lost (subst (λ (us : List Update). IsCons (moved (early_row ∷ late_row ∷ []) 0) us) outs
+    (subst (λ (us : List Update). IsCons (moved us 0) h.outputs) ins h.cons))

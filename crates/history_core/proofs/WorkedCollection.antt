@@ -130,15 +130,16 @@ collected = record {
     gone = λ m n s k t le at. absurd (nothing_taken m k t);
   };
   present = λ n s k from at names. subst (IsPresent (store_after worked)) (named_eight n s k at names) merged_present;
-  content = λ n s from at. subst (λ (t : ShardState). AllByRecursion (BatchHolds (store_after worked) (early_row ∷ late_row ∷ [])) t.batches) (sym (state_eight n s at)) (
-    (
-      early_row ∷ late_row ∷ [],
-      (merged_part, early_row ∷ late_row ∷ [], [], refl, reads_merged, refl, refl),
-      merged_is,
-      refl,
-    ),
-    tt,
-  );
+  content = λ n s from at. subst (λ (t : ShardState). AllByRecursion (BatchHolds (store_after worked) (early_row ∷ late_row ∷ [])) t.batches)
+      (sym (state_eight n s at)) (
+        (
+          early_row ∷ late_row ∷ [],
+          (merged_part, early_row ∷ late_row ∷ [], [], refl, reads_merged, refl, refl),
+          merged_is,
+          refl,
+        ),
+        tt,
+      );
   before_upper = (refl, (refl, tt));
   light = omega arith;
   unweighed = λ e. absurd (not_start e);

@@ -22,7 +22,8 @@ use Rattle.history_core.proofs.WorkedLaw.{prefixes_lawful}
 use Rattle.history_core.proofs.WorkedBrokenSets.{spent}
 
 pub with_lawful : (outcome : Outcome) → Lawful (append_with outcome)
-with_lawful outcome = one_more (first_calls 8) (entry_of 0 first_append outcome) (prefixes_lawful 8) (last_allowed (first_calls 8) (did 0 first_append) (prefixes_lawful 9))
+with_lawful outcome = one_more (first_calls 8) (entry_of 0 first_append outcome) (prefixes_lawful 8)
+    (last_allowed (first_calls 8) (did 0 first_append) (prefixes_lawful 9))
 
 may_again : (outcome : Outcome) → Allows (own_of (append_with outcome) 0) first_append
 may_again outcome = record {

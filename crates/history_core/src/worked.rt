@@ -1,7 +1,7 @@
 // A worked history and what is shown of it, each the contract of a function that does nothing.
 ghost use Rattle.std.specs.Prelude.{◌≡◌, ℕ, List, [], ◌∷◌, Some, None};
-ghost use Rattle.store_core.specs.declared.calls.Call.TheVariants.{Cas};
-ghost use Rattle.store_core.specs.declared.replies.Reply.TheVariants.{Committed, Mismatch};
+ghost use Rattle.store_core.specs.declared.calls.Call.TheVariants.{Cas, Get, Set};
+ghost use Rattle.store_core.specs.declared.replies.Reply.TheVariants.{Bytes, Committed, Mismatch};
 ghost use Rattle.store_core.specs.declared.outcomes.Outcome.{Outcome};
 ghost use Rattle.store_core.specs.declared.outcomes.Outcome.TheVariants.{FailedTook, FailedLost};
 ghost use Rattle.store_core.specs.Histories.{reply, store_after};
@@ -14,7 +14,7 @@ ghost use Rattle.history_core.specs.Worked.{the_shard, key, early_row, late_row,
 ghost use Rattle.history_core.specs.Worked.{state1, state2, state3, state4, state5, state6, state7, state8, step1, step2};
 ghost use Rattle.history_core.specs.Worked.{step3, step4, step5, step6, step7, step8, version0, version1, version2, version3};
 ghost use Rattle.history_core.specs.Worked.{version4, version5, version6, version7, version8};
-ghost use Rattle.history_core.specs.WorkedTrail.{did, worked, first_calls};
+ghost use Rattle.history_core.specs.WorkedTrail.{did, worked, first_calls, first_calls_and};
 ghost use Rattle.history_core.specs.WorkedCompacted.{undone_row, compacted};
 ghost use Rattle.history_core.specs.WorkedFailures.{first_append, append_with, append_again, set_after_failure, too_late};
 ghost use Rattle.history_core.specs.WorkedBroken.{with_part, with_dropped, set_other_bytes, set_after_cas, first_not_init};
@@ -53,8 +53,11 @@ pub fn worked_accepts()
     ensures whole { accepted_of the_shard [] worked ≡ early_row ∷ late_row ∷ [] }
 {}
 
-/// In the end there is the last version alone, and of the parts the merged one alone.
+/// While the reader's hold stands the parts that the merge took are there. In the end there is the last version alone, and of the
+/// parts the merged one alone.
 pub fn worked_collects()
+    ensures early_held { reply (store_after (first_calls 17)) (did 2 (Get (key 0 1))) ≡ Bytes (Some early_part) }
+    ensures late_held { reply (store_after (first_calls 17)) (did 2 (Get (key 0 2))) ≡ Bytes (Some late_part) }
     ensures version { (store_after worked).logs the_shard ≡ record { first = 8; versions = version8 ∷ [] } }
     ensures early { (store_after worked).blobs (key 0 1) ≡ None }
     ensures late { (store_after worked).blobs (key 0 2) ≡ None }
@@ -95,10 +98,12 @@ pub fn worked_compaction()
     ensures stands { StandsFor (store_after compacted) the_shard (early_row ∷ undone_row ∷ []) }
 {}
 
-/// Each broken history is lawful before its last call: it is a prefix of the worked history there, or one with another Set.
+/// Each broken history is lawful before its last call: it is a prefix of the worked history there, or one with another Set. A key
+/// may be set again to the bytes that it has.
 pub fn broken_starts()
     ensures with_part { (part : List ℕ) → Lawful (with_part part) }
     ensures with_dropped { Lawful with_dropped }
+    ensures same_again { Lawful (first_calls_and 8 0 (Set (key 0 1) early_part)) }
 {}
 
 /// Sets that aren't allowed: of other bytes than those that the key has, and after the writer's own append under the key's token,

@@ -12,6 +12,8 @@ pub mod MemberChanges
 pub mod Applied
 pub mod Staying
 pub mod NoMemory
+pub mod VersionFacts
+pub mod Tokens
 pub mod VersionWriting
 pub mod VersionFields
 pub mod VersionMembers
@@ -23,5 +25,3 @@ pub mod VersionBatchLists
 pub mod VersionSteps
 pub mod VersionTransitions
 pub mod VersionStates
-pub mod VersionFacts
-pub mod Tokens
