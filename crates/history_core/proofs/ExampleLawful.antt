@@ -14,7 +14,7 @@ use Rattle.state_core.specs.Lists.{Among}
 use Rattle.state_core.specs.declared.transitions.Transition.{Transition}
 use Rattle.state_core.specs.declared.transitions.Transition.TheVariants.{Init}
 use Rattle.state_core.specs.States.{ShardState}
-use Rattle.state_core.specs.Versions.{version_in}
+use Rattle.state_core.specs.VersionReading.{version_in}
 use Rattle.state_core.proofs.ListLemmas.{bool_cases, each_among}
 use Rattle.history_core.specs.Discipline.{OwnLawful, LawfulBack, Lawful, JoinsAs, SpendsIn, TakesIn}
 use Rattle.history_core.specs.Example.{the_shard, part_of, seven_at_1, eight_at_6, part_seven, part_eight, part_both, state_0, state_1, state_2, state_3, state_4, state_5, step_1, step_2, step_3, step_4, step_5, ExampleBytes, example_back, example}

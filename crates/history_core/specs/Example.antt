@@ -17,7 +17,7 @@ use Rattle.state_core.specs.declared.transitions.Transition.{Transition}
 use Rattle.state_core.specs.declared.transitions.Transition.TheVariants.{Init, Join, Append, Merge}
 use Rattle.state_core.specs.States.{ShardState}
 use Rattle.state_core.specs.Steps.{init}
-use Rattle.state_core.specs.Versions.{version_in}
+use Rattle.state_core.specs.VersionReading.{version_in}
 
 abbrev pub the_shard : ShardId
 the_shard = record { 0 = 1 }

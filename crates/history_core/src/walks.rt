@@ -3,7 +3,7 @@ ghost use Rattle.std.specs.Prelude.{◌≡◌, ◌++◌, Some, None, [], IfOk, O
 ghost use Rattle.store_core.specs.Stores.{key_cmp, set_at};
 ghost use Rattle.store_core.specs.Contents.{blobs_of};
 ghost use Rattle.state_core.specs.States.{ShardState};
-ghost use Rattle.state_core.specs.Versions.{version_in};
+ghost use Rattle.state_core.specs.VersionReading.{version_in};
 ghost use Rattle.std.specs.Prelude.{List, Result};
 ghost use Rattle.std.specs.Result.{result_ok};
 ghost use Rattle.update_core.specs.declared.updates.Update.{Update};
