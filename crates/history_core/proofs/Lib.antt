@@ -31,6 +31,7 @@ pub mod LawfulLaws
 pub mod AcceptedLaws
 pub mod ExampleStates
 pub mod ExampleParts
+pub mod ExampleVersions
 pub mod ExampleLawful
 pub mod AnswerLaws
 pub mod GotLaws
