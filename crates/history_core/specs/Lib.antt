@@ -13,3 +13,4 @@ pub mod WorkedFailures
 pub mod WorkedCompacted
 pub mod Spending
 pub mod Answers
+pub mod Lasting

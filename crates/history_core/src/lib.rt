@@ -2,6 +2,7 @@
 #![tactic(auto)]
 
 pub mod answer_laws;
+pub mod lasting_laws;
 pub mod laws;
 pub mod part_laws;
 pub mod worked;

@@ -5,3 +5,4 @@ pub mod Refusals
 pub mod Applying
 pub mod Versions
 pub mod VersionReading
+pub mod Tokens

@@ -9,6 +9,7 @@ mod members;
 mod refusals;
 mod refusing;
 mod states;
+pub mod token_laws;
 mod transitions;
 mod version_encoding;
 mod version_faults;
