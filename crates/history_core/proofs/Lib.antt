@@ -54,7 +54,4 @@ pub mod WorkedFailed
 pub mod WorkedStands
 pub mod WorkedCollection
 pub mod WorkedCompaction
-pub mod AnswerLaws
-pub mod GotLaws
-pub mod SpentLaws
 pub mod LastingLaws
