@@ -17,3 +17,6 @@ pub use members::Member;
 pub use refusals::Refusal;
 pub use states::State;
 pub use transitions::Transition;
+
+#[cfg(test)]
+mod tests;
