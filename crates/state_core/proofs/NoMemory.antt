@@ -23,7 +23,8 @@ other_if : (b : Bool) (o p : Option Refusal) → Other o → Other p → Other (
 other_if true o p f g = f
 other_if false o p f g = g
 
-other_member : (o : Option Member) (fits : Kind → Bool) (next : Member → Option Refusal) → ((m : Member) → Other (next m)) → Other (of_member o fits next)
+other_member : (o : Option Member) (fits : Kind → Bool) (next : Member → Option Refusal) → ((m : Member) → Other (next m))
+    → Other (of_member o fits next)
 other_member None fits next f = λ h. cc
 other_member (Some m) fits next f = other_if (fits m.kind) (next m) (Some NoMember) (f m) (λ h. cc)
 
