@@ -73,14 +73,17 @@ pub merged_in : (s t : ShardState) (member token : ℕ) (left right merged : Bat
 merged_in s t member token left right merged ms bs e r small h em (pair, eb) =
     let x : Transition = Merge member token left right merged in
     let (s2, a) = applies_unrefused s x r small (subst (λ (q : ShardState). refusal_of q x ≡ None) (sym e) h) in
-    let with_both : List Batch → List Member → ShardState = λ bs ms. record s { number = s.number + 1; batches = bs; members = ms } in
+    let with_both : List Batch → List Member → ShardState =
+    λ bs ms. record s { number = s.number + 1; batches = bs; members = ms } in
     let m : Merges s member token left right merged (with_both bs ms) = record {
       shape = a.makes.shape;
       stands = a.makes.stands;
       before = pair.front;
       behind = pair.back;
       present = pair.stands;
-      effect = ap (λ (bs : List Batch). with_both bs ms) eb ∙ ap (λ (ms : List Member). with_both (pair.front ++ merged ∷ pair.back) ms) em;
+      effect =
+          ap (λ (bs : List Batch). with_both bs ms) eb
+          ∙ ap (λ (ms : List Member). with_both (pair.front ++ merged ∷ pair.back) ms) em;
     } in
     subst (λ (q : ShardState). Applies q x (with_both bs ms)) e (applies_of s (with_both bs ms) x r a.room m)
 
@@ -90,8 +93,10 @@ pub appended_in : (s t : ShardState) (member token weight : ℕ) (b : Batch) (up
     → ms ≡ changed member (λ w. record w { token = token }) s.members → bs ≡ s.batches ++ b ∷ []
     → Applies t (Append member token b.desc.lower b.desc.upper b.parts b.rows weight) (record s { number = s.number + 1; upper = up; weight = s.weight + weight; members = ms; batches = bs })
 appended_in s t member token weight b up ms bs e r small fresh h eu em eb =
-    let made : ℕ → Batch = λ n. record { desc = record { lower = b.desc.lower; upper = b.desc.upper; since = n }; parts = b.parts; rows = b.rows } in
-    let all : Option ℕ → List Member → List Batch → ShardState = λ up ms bs. record s { number = s.number + 1; upper = up; weight = s.weight + weight; members = ms; batches = bs } in
+    let made : ℕ → Batch =
+    λ n. record { desc = record { lower = b.desc.lower; upper = b.desc.upper; since = n }; parts = b.parts; rows = b.rows } in
+    let all : Option ℕ → List Member → List Batch → ShardState =
+    λ up ms bs. record s { number = s.number + 1; upper = up; weight = s.weight + weight; members = ms; batches = bs } in
     let old = changed member (λ w. record w { token = token }) s.members in
     let at : b.desc.upper ≡ up = sym (eu ∙ ap spine_upper eb ∙ spine_upper-push s.batches b) in
     applied s t (all up ms bs) (Append member token b.desc.lower b.desc.upper b.parts b.rows weight) e r small h

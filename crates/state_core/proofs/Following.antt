@@ -56,5 +56,7 @@ pub follows_later : (was next : Bool) (left right : Batch) (bs : List Batch) (i 
     → (was && same_batch b right) ≡ false → (IsTrue next ↔ (b ≡ left))
     → pending next left right (drop (i + 1) bs) ≡ follows left right bs
 follows_later was next left right bs i b h is so e t =
-    ap (λ (n : ℕ). pending next left right (drop n bs)) (add-one i) ∙ ap (λ (q : Bool). pending q left right (drop (suc i) bs)) (tells_same next b left t)
-    ∙ sym (pending_on was left right b (drop (suc i) bs) e) ∙ sym (ap (pending was left right) (drop-cons bs i b h ∙ ap (λ (c : Batch). c ∷ drop (suc i) bs) (sym is))) ∙ so
+    ap (λ (n : ℕ). pending next left right (drop n bs)) (add-one i)
+    ∙ ap (λ (q : Bool). pending q left right (drop (suc i) bs)) (tells_same next b left t)
+    ∙ sym (pending_on was left right b (drop (suc i) bs) e)
+    ∙ sym (ap (pending was left right) (drop-cons bs i b h ∙ ap (λ (c : Batch). c ∷ drop (suc i) bs) (sym is))) ∙ so

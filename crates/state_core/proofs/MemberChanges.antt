@@ -45,7 +45,8 @@ changed_by n f w (m ∷ ms) r h = elim (bool_cases (eqb m.number n)) [
 pub changed_found : (n : ℕ) (f : Member → Member) (w new : Member) (ms : List Member) → MembersRise ms
     → member_of n ms ≡ Some w → new ≡ f w → new.number ≡ w.number → changed new.number (λ _. new) ms ≡ changed n f ms
 changed_found n f w new ms r h e same =
-    ap (λ (k : ℕ). changed k (λ _. new) ms) (same ∙ number_found n w ms h) ∙ ap (λ (x : Member). changed n (λ _. x) ms) e ∙ changed_by n f w ms (rise_of ms r) h
+    ap (λ (k : ℕ). changed k (λ _. new) ms) (same ∙ number_found n w ms h) ∙ ap (λ (x : Member). changed n (λ _. x) ms) e
+    ∙ changed_by n f w ms (rise_of ms r) h
 
 -- where none is found nothing changes
 pub changed_none : (n : ℕ) (f : Member → Member) (ms : List Member) → member_of n ms ≡ None → ms ≡ changed n f ms
