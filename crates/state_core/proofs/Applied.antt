@@ -17,13 +17,15 @@ use Rattle.state_core.proofs.Refused.{applies_unrefused}
 use Rattle.state_core.proofs.Rules.{applies_of}
 
 -- a state that is whatever the transition makes of an unrefused state
-pub applied : (s t new : ShardState) (x : Transition) → s ≡ t → IsState s → s.number < 2 ^ 64 → refusal_of t x ≡ None → ((s2 : ShardState) → Makes s x s2 → s2 ≡ new) → Applies t x new
+pub applied : (s t new : ShardState) (x : Transition) → s ≡ t → IsState s → s.number < 2 ^ 64 → refusal_of t x ≡ None
+    → ((s2 : ShardState) → Makes s x s2 → s2 ≡ new) → Applies t x new
 applied s t new x e r small h f =
     let (s2, a) = applies_unrefused s x r small (subst (λ (q : ShardState). refusal_of q x ≡ None) (sym e) h) in
     let b : Applies s x new = subst (λ (q : ShardState). Applies s x q) (f s2 a.makes) a in
     subst (λ (q : ShardState). Applies q x new) e b
 
-pub joining_is : (s : ShardState) (kind : Kind) (now lease since hold beat span : ℕ) → since ≡ since_of kind s.since → hold ≡ beat_of kind (s.number + 1) → beat ≡ beat_of kind now → span ≡ beat_of kind lease
+pub joining_is : (s : ShardState) (kind : Kind) (now lease since hold beat span : ℕ) → since ≡ since_of kind s.since
+    → hold ≡ beat_of kind (s.number + 1) → beat ≡ beat_of kind now → span ≡ beat_of kind lease
     → (let m : Member = record { number = s.next_member; kind = kind; since = since; hold = hold; beat = beat; lease = span; token = 0 } in m) ≡ joining s kind now lease
 joining_is s kind now lease since hold beat span a b c d = rw (a, b, c, d) refl
 
@@ -34,7 +36,8 @@ pub record AppendFits (s : ShardState) (expected weight : ℕ) (new : Option ℕ
   pub light : s.weight + weight ≤ 2 ^ 62
   pub room : s.number + 1 < 2 ^ 64
 
-pub append_fits : (s t : ShardState) (member token expected rows weight : ℕ) (new : Option ℕ) (parts : List PartKey) → s ≡ t → IsState s → s.number < 2 ^ 64 → refusal_of t (Append member token expected new parts rows weight) ≡ None
+pub append_fits : (s t : ShardState) (member token expected rows weight : ℕ) (new : Option ℕ) (parts : List PartKey) → s ≡ t
+    → IsState s → s.number < 2 ^ 64 → refusal_of t (Append member token expected new parts rows weight) ≡ None
     → AppendFits s expected weight new
 append_fits s t member token expected rows weight new parts e r small h =
     let x : Transition = Append member token expected new parts rows weight in
@@ -54,7 +57,8 @@ pub record MergeFits (s : ShardState) (left right merged : Batch) : Type 0 where
   pub there : HasNoPair left right s.batches → ⊥
   pub room : s.number + 1 < 2 ^ 64
 
-pub merge_fits : (s t : ShardState) (member token : ℕ) (left right merged : Batch) → s ≡ t → IsState s → s.number < 2 ^ 64 → refusal_of t (Merge member token left right merged) ≡ None → MergeFits s left right merged
+pub merge_fits : (s t : ShardState) (member token : ℕ) (left right merged : Batch) → s ≡ t → IsState s → s.number < 2 ^ 64
+    → refusal_of t (Merge member token left right merged) ≡ None → MergeFits s left right merged
 merge_fits s t member token left right merged e r small h =
     let x : Transition = Merge member token left right merged in
     let (s2, a) = applies_unrefused s x r small (subst (λ (q : ShardState). refusal_of q x ≡ None) (sym e) h) in
@@ -62,30 +66,37 @@ merge_fits s t member token left right merged e r small h =
     record { lower = m.shape.lower; upper = m.shape.upper; there = λ no. pair_there left right m.before m.behind (subst (λ (bs : List Batch). HasNoPair left right bs) m.present no); room = a.room }
 
 -- a replacement of two batches is what a merge makes
-pub merged_in : (s t : ShardState) (member token : ℕ) (left right merged : Batch) (ms : List Member) (bs : List Batch) → s ≡ t → IsState s → s.number < 2 ^ 64 → refusal_of t (Merge member token left right merged) ≡ None
+pub merged_in : (s t : ShardState) (member token : ℕ) (left right merged : Batch) (ms : List Member) (bs : List Batch)
+    → s ≡ t → IsState s → s.number < 2 ^ 64 → refusal_of t (Merge member token left right merged) ≡ None
     → ms ≡ changed member (λ w. record w { token = token; hold = s.number + 1 }) s.members → Replaced left right merged s.batches bs
     → Applies t (Merge member token left right merged) (record s { number = s.number + 1; batches = bs; members = ms })
 merged_in s t member token left right merged ms bs e r small h em (pair, eb) =
     let x : Transition = Merge member token left right merged in
     let (s2, a) = applies_unrefused s x r small (subst (λ (q : ShardState). refusal_of q x ≡ None) (sym e) h) in
-    let with_both : List Batch → List Member → ShardState = λ bs ms. record s { number = s.number + 1; batches = bs; members = ms } in
+    let with_both : List Batch → List Member → ShardState =
+    λ bs ms. record s { number = s.number + 1; batches = bs; members = ms } in
     let m : Merges s member token left right merged (with_both bs ms) = record {
       shape = a.makes.shape;
       stands = a.makes.stands;
       before = pair.front;
       behind = pair.back;
       present = pair.stands;
-      effect = ap (λ (bs : List Batch). with_both bs ms) eb ∙ ap (λ (ms : List Member). with_both (pair.front ++ merged ∷ pair.back) ms) em;
+      effect =
+          ap (λ (bs : List Batch). with_both bs ms) eb
+          ∙ ap (λ (ms : List Member). with_both (pair.front ++ merged ∷ pair.back) ms) em;
     } in
     subst (λ (q : ShardState). Applies q x (with_both bs ms)) e (applies_of s (with_both bs ms) x r a.room m)
 
 -- a batch at the end, with the upper of the batches, is what an append makes
 pub appended_in : (s t : ShardState) (member token weight : ℕ) (b : Batch) (up : Option ℕ) (ms : List Member) (bs : List Batch) → s ≡ t → IsState s → s.number < 2 ^ 64 → b.desc.since ≡ 0
-    → refusal_of t (Append member token b.desc.lower b.desc.upper b.parts b.rows weight) ≡ None → up ≡ spine_upper bs → ms ≡ changed member (λ w. record w { token = token }) s.members → bs ≡ s.batches ++ b ∷ []
+    → refusal_of t (Append member token b.desc.lower b.desc.upper b.parts b.rows weight) ≡ None → up ≡ spine_upper bs
+    → ms ≡ changed member (λ w. record w { token = token }) s.members → bs ≡ s.batches ++ b ∷ []
     → Applies t (Append member token b.desc.lower b.desc.upper b.parts b.rows weight) (record s { number = s.number + 1; upper = up; weight = s.weight + weight; members = ms; batches = bs })
 appended_in s t member token weight b up ms bs e r small fresh h eu em eb =
-    let made : ℕ → Batch = λ n. record { desc = record { lower = b.desc.lower; upper = b.desc.upper; since = n }; parts = b.parts; rows = b.rows } in
-    let all : Option ℕ → List Member → List Batch → ShardState = λ up ms bs. record s { number = s.number + 1; upper = up; weight = s.weight + weight; members = ms; batches = bs } in
+    let made : ℕ → Batch =
+    λ n. record { desc = record { lower = b.desc.lower; upper = b.desc.upper; since = n }; parts = b.parts; rows = b.rows } in
+    let all : Option ℕ → List Member → List Batch → ShardState =
+    λ up ms bs. record s { number = s.number + 1; upper = up; weight = s.weight + weight; members = ms; batches = bs } in
     let old = changed member (λ w. record w { token = token }) s.members in
     let at : b.desc.upper ≡ up = sym (eu ∙ ap spine_upper eb ∙ spine_upper-push s.batches b) in
     applied s t (all up ms bs) (Append member token b.desc.lower b.desc.upper b.parts b.rows weight) e r small h

@@ -15,7 +15,8 @@ pub pending_none : (left right : Batch) (bs : List Batch) → pending false left
 pending_none left right [] = refl
 pending_none left right (b ∷ bs) = refl
 
-pending_on : (was : Bool) (left right b : Batch) (bs : List Batch) → (was && same_batch b right) ≡ false → pending was left right (b ∷ bs) ≡ pending (same_batch b left) left right bs
+pending_on : (was : Bool) (left right b : Batch) (bs : List Batch) → (was && same_batch b right) ≡ false
+    → pending was left right (b ∷ bs) ≡ pending (same_batch b left) left right bs
 pending_on was left right b [] e = rw e refl
 pending_on was left right b (c ∷ bs) e = rw e (both (same_batch b left && same_batch c right))
   where
@@ -32,7 +33,8 @@ tells_same false a b h = elim (bool_cases (same_batch a b)) [
 ]
 
 -- the right one is at this place, after the left one
-pub follows_here : (was r : Bool) (left right : Batch) (bs : List Batch) (i : ℕ) (b : Batch) → i < length bs → b ≡ get_or bs i b → pending was left right (drop i bs) ≡ follows left right bs
+pub follows_here : (was r : Bool) (left right : Batch) (bs : List Batch) (i : ℕ) (b : Batch) → i < length bs
+    → b ≡ get_or bs i b → pending was left right (drop i bs) ≡ follows left right bs
     → was ≡ true → (IsTrue r ↔ (b ≡ right)) → r ≡ true → true ≡ follows left right bs
 follows_here was r left right bs i b h is so w t e =
     let same : same_batch b right ≡ true = sym (tells_same r b right t) ∙ e in
@@ -49,8 +51,12 @@ pub not_first : (was : Bool) (b right : Batch) → was ≡ false → (was && sam
 not_first was b right e = rw e refl
 
 -- no right one after the left one is at this place
-pub follows_later : (was next : Bool) (left right : Batch) (bs : List Batch) (i : ℕ) (b : Batch) → i < length bs → b ≡ get_or bs i b → pending was left right (drop i bs) ≡ follows left right bs
-    → (was && same_batch b right) ≡ false → (IsTrue next ↔ (b ≡ left)) → pending next left right (drop (i + 1) bs) ≡ follows left right bs
+pub follows_later : (was next : Bool) (left right : Batch) (bs : List Batch) (i : ℕ) (b : Batch) → i < length bs
+    → b ≡ get_or bs i b → pending was left right (drop i bs) ≡ follows left right bs
+    → (was && same_batch b right) ≡ false → (IsTrue next ↔ (b ≡ left))
+    → pending next left right (drop (i + 1) bs) ≡ follows left right bs
 follows_later was next left right bs i b h is so e t =
-    ap (λ (n : ℕ). pending next left right (drop n bs)) (add-one i) ∙ ap (λ (q : Bool). pending q left right (drop (suc i) bs)) (tells_same next b left t)
-    ∙ sym (pending_on was left right b (drop (suc i) bs) e) ∙ sym (ap (pending was left right) (drop-cons bs i b h ∙ ap (λ (c : Batch). c ∷ drop (suc i) bs) (sym is))) ∙ so
+    ap (λ (n : ℕ). pending next left right (drop n bs)) (add-one i)
+    ∙ ap (λ (q : Bool). pending q left right (drop (suc i) bs)) (tells_same next b left t)
+    ∙ sym (pending_on was left right b (drop (suc i) bs) e)
+    ∙ sym (ap (pending was left right) (drop-cons bs i b h ∙ ap (λ (c : Batch). c ∷ drop (suc i) bs) (sym is))) ∙ so

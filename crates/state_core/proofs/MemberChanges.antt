@@ -10,7 +10,8 @@ use Rattle.state_core.proofs.ListLemmas.{bool_cases}
 use Rattle.state_core.proofs.Rules.{Rise, rise_of}
 
 -- no member above a number has it
-changed_above : (n : ℕ) (f : Member → Member) (m : Member) (ms : List Member) → m.number ≡ n → AllByRecursion (λ x. m.number < x.number) ms → changed n f ms ≡ ms
+changed_above : (n : ℕ) (f : Member → Member) (m : Member) (ms : List Member) → m.number ≡ n
+    → AllByRecursion (λ x. m.number < x.number) ms → changed n f ms ≡ ms
 changed_above n f m [] e above = refl
 changed_above n f m (x ∷ ms) e above =
     let lt : m.number < x.number = above.0 in
@@ -26,7 +27,8 @@ number_found n w (m ∷ ms) h = elim (bool_cases (eqb m.number n)) [
   | inr e ↦ number_found n w ms (rw e at h)
 ]
 
-changed_by : (n : ℕ) (f : Member → Member) (w : Member) (ms : List Member) → Rise ms → member_of n ms ≡ Some w → changed n (λ _. f w) ms ≡ changed n f ms
+changed_by : (n : ℕ) (f : Member → Member) (w : Member) (ms : List Member) → Rise ms → member_of n ms ≡ Some w
+    → changed n (λ _. f w) ms ≡ changed n f ms
 changed_by n f w [] r h = refl
 changed_by n f w (m ∷ ms) r h = elim (bool_cases (eqb m.number n)) [
   | inl e ↦
@@ -40,9 +42,11 @@ changed_by n f w (m ∷ ms) r h = elim (bool_cases (eqb m.number n)) [
 ]
 
 -- the member that is found, changed, stands for the change of each with its number
-pub changed_found : (n : ℕ) (f : Member → Member) (w new : Member) (ms : List Member) → MembersRise ms → member_of n ms ≡ Some w → new ≡ f w → new.number ≡ w.number → changed new.number (λ _. new) ms ≡ changed n f ms
+pub changed_found : (n : ℕ) (f : Member → Member) (w new : Member) (ms : List Member) → MembersRise ms
+    → member_of n ms ≡ Some w → new ≡ f w → new.number ≡ w.number → changed new.number (λ _. new) ms ≡ changed n f ms
 changed_found n f w new ms r h e same =
-    ap (λ (k : ℕ). changed k (λ _. new) ms) (same ∙ number_found n w ms h) ∙ ap (λ (x : Member). changed n (λ _. x) ms) e ∙ changed_by n f w ms (rise_of ms r) h
+    ap (λ (k : ℕ). changed k (λ _. new) ms) (same ∙ number_found n w ms h) ∙ ap (λ (x : Member). changed n (λ _. x) ms) e
+    ∙ changed_by n f w ms (rise_of ms r) h
 
 -- where none is found nothing changes
 pub changed_none : (n : ℕ) (f : Member → Member) (ms : List Member) → member_of n ms ≡ None → ms ≡ changed n f ms

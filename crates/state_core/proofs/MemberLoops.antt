@@ -11,12 +11,15 @@ least_min h n (m ∷ ms) =
     let rest = least_min h n ms in
     elim (bool_cases (is_writer m.kind)) [ inl e ↦ rw e rest | inr e ↦ rw e (omega arith) ]
 
-least_hold_cons : (n : ℕ) (m : Member) (ms : List Member) → least_hold n (m ∷ ms) ≡ least_hold (cond (is_writer m.kind) n (min m.hold n)) ms
+least_hold_cons : (n : ℕ) (m : Member) (ms : List Member)
+    → least_hold n (m ∷ ms) ≡ least_hold (cond (is_writer m.kind) n (min m.hold n)) ms
 least_hold_cons n m ms = elim (bool_cases (is_writer m.kind)) [ inl e ↦ rw e refl | inr e ↦ rw e (least_min m.hold n ms) ]
 
 -- the holds up to this place are taken
-pub hold_more : (top least next : ℕ) (ms : List Member) (i : ℕ) (d : Member) → i < length ms → least_hold least (drop i ms) ≡ least_hold top ms
-    → next ≡ cond (is_writer (get_or ms i d).kind) least (min (get_or ms i d).hold least) → least_hold next (drop (i + 1) ms) ≡ least_hold top ms
+pub hold_more : (top least next : ℕ) (ms : List Member) (i : ℕ) (d : Member) → i < length ms
+    → least_hold least (drop i ms) ≡ least_hold top ms
+    → next ≡ cond (is_writer (get_or ms i d).kind) least (min (get_or ms i d).hold least)
+    → least_hold next (drop (i + 1) ms) ≡ least_hold top ms
 hold_more top least next ms i d h so e =
     ap (λ (n : ℕ). least_hold next (drop n ms)) (add-one i) ∙ ap (λ (n : ℕ). least_hold n (drop (suc i) ms)) e
     ∙ sym (least_hold_cons least (get_or ms i d) (drop (suc i) ms)) ∙ sym (ap (least_hold least) (drop-cons ms i d h)) ∙ so

@@ -19,7 +19,8 @@ use Rattle.state_core.proofs.Rules.{Rise, rise_of}
 abbrev Same : ShardState → ShardState → Type 0
 Same s s2 = (s2.batches ≡ s.batches) × (s2.upper ≡ s.upper) × (s2.weight ≡ s.weight)
 
-pub batches_stay : (s s2 : ShardState) (x : Transition) → Applies s x s2 → brings_batch x ≡ false → (s2.batches ≡ s.batches) × (s2.upper ≡ s.upper) × (s2.weight ≡ s.weight)
+pub batches_stay : (s s2 : ShardState) (x : Transition) → Applies s x s2 → brings_batch x ≡ false
+    → (s2.batches ≡ s.batches) × (s2.upper ≡ s.upper) × (s2.weight ≡ s.weight)
 batches_stay s s2 Init a h = absurd a.makes
 batches_stay s s2 (Join kind now lease) a h = subst (Same s) (sym a.makes.effect) (refl, refl, refl)
 batches_stay s s2 (Leave member) a h = subst (Same s) (sym a.makes.effect) (refl, refl, refl)
@@ -29,8 +30,10 @@ batches_stay s s2 (Expire now) a h = subst (Same s) (sym a.makes.effect) (refl, 
 batches_stay s s2 (Append member token expected new parts rows weight) a h = cc
 batches_stay s s2 (Merge member token left right merged) a h = cc
 
-pub merge_stays : (s s2 : ShardState) (member token : ℕ) (left right merged : Batch) → Applies s (Merge member token left right merged) s2 → (s2.upper ≡ s.upper) × (s2.weight ≡ s.weight)
-merge_stays s s2 member token left right merged a = subst (λ (t : ShardState). (t.upper ≡ s.upper) × (t.weight ≡ s.weight)) (sym a.makes.effect) (refl, refl)
+pub merge_stays : (s s2 : ShardState) (member token : ℕ) (left right merged : Batch)
+    → Applies s (Merge member token left right merged) s2 → (s2.upper ≡ s.upper) × (s2.weight ≡ s.weight)
+merge_stays s s2 member token left right merged a =
+    subst (λ (t : ShardState). (t.upper ≡ s.upper) × (t.weight ≡ s.weight)) (sym a.makes.effect) (refl, refl)
 
 member_pushed : (n : ℕ) (new : Member) (ms : List Member) → (new.number ≡ n → ⊥) → member_of n (ms ++ new ∷ []) ≡ member_of n ms
 member_pushed n new [] ne = rw (ne_eqb new.number n ne) refl
@@ -49,7 +52,8 @@ member_without n k (m ∷ ms) ne =
       | inr e ↦ elim (bool_cases (eqb m.number n)) [ inl f ↦ rw (e, f) refl | inr f ↦ rw (e, f) rest ]
     ]
 
-member_changed : (n k : ℕ) (f : Member → Member) (ms : List Member) → ((m : Member) → (f m).number ≡ m.number) → (k ≡ n → ⊥) → member_of n (changed k f ms) ≡ member_of n ms
+member_changed : (n k : ℕ) (f : Member → Member) (ms : List Member) → ((m : Member) → (f m).number ≡ m.number) → (k ≡ n → ⊥)
+    → member_of n (changed k f ms) ≡ member_of n ms
 member_changed n k f [] same ne = refl
 member_changed n k f (m ∷ ms) same ne =
     let rest = member_changed n k f ms same ne in
@@ -67,7 +71,8 @@ absent_above n (m ∷ ms) h =
     rw (ne_eqb m.number n (λ q. omega arith)) (absent_above n ms h.1)
 
 -- a member whose lease hasn't run out stood
-member_unexpired : (n now : ℕ) (w : Member) (ms : List Member) → Rise ms → member_of n (unexpired now ms) ≡ Some w → member_of n ms ≡ Some w
+member_unexpired : (n now : ℕ) (w : Member) (ms : List Member) → Rise ms → member_of n (unexpired now ms) ≡ Some w
+    → member_of n ms ≡ Some w
 member_unexpired n now w [] r h = h
 member_unexpired n now w (m ∷ ms) r h = elim (bool_cases (is_out now m)) [
   | inl e ↦
@@ -75,7 +80,8 @@ member_unexpired n now w (m ∷ ms) r h = elim (bool_cases (is_out now m)) [
       elim (bool_cases (eqb m.number n)) [
         | inl f ↦
             let number = eqb-true m.number n f in
-            let above : AllByRecursion (λ x. n < x.number) ms = each_map (λ (x : Member). m.number < x.number) (λ (x : Member). n < x.number) ms (λ x g. let g2 : m.number < x.number = g in omega arith) r.0 in
+            let above : AllByRecursion (λ x. n < x.number) ms =
+            each_map (λ (x : Member). m.number < x.number) (λ (x : Member). n < x.number) ms (λ x g. let g2 : m.number < x.number = g in omega arith) r.0 in
             absurd (let none : member_of n ms ≡ None = absent_above n ms above in cc)
         | inr f ↦ rw f rest
       ]
@@ -87,29 +93,38 @@ member_unexpired n now w (m ∷ ms) r h = elim (bool_cases (is_out now m)) [
       ]
 ]
 
-pub expire_keeps : (s s2 : ShardState) (now n : ℕ) (w : Member) → IsState s → Applies s (Expire now) s2 → member_of n s2.members ≡ Some w → member_of n s.members ≡ Some w
-expire_keeps s s2 now n w r a h = member_unexpired n now w s.members (rise_of s.members r.rising) (subst (λ (t : ShardState). member_of n t.members ≡ Some w) a.makes.effect h)
+pub expire_keeps : (s s2 : ShardState) (now n : ℕ) (w : Member) → IsState s → Applies s (Expire now) s2
+    → member_of n s2.members ≡ Some w → member_of n s.members ≡ Some w
+expire_keeps s s2 now n w r a h =
+    member_unexpired n now w s.members (rise_of s.members r.rising) (subst (λ (t : ShardState). member_of n t.members ≡ Some w) a.makes.effect h)
 
 not_own : (k n : ℕ) → ¬ (Some k ≡ Some n) → k ≡ n → ⊥
 not_own k n h e = h (ap Some e)
 
 -- a member that isn't the transition's own stands as it stood
-pub others_stay : (s s2 : ShardState) (x : Transition) (n : ℕ) → Applies s x s2 → n < s.next_member → ¬ (acts_for x ≡ Some n) → ((now : ℕ) → ¬ (x ≡ Expire now)) → member_of n s2.members ≡ member_of n s.members
+pub others_stay : (s s2 : ShardState) (x : Transition) (n : ℕ) → Applies s x s2 → n < s.next_member → ¬ (acts_for x ≡ Some n)
+    → ((now : ℕ) → ¬ (x ≡ Expire now)) → member_of n s2.members ≡ member_of n s.members
 others_stay s s2 Init n a lt own out = absurd a.makes
-others_stay s s2 (Join kind now lease) n a lt own out = rw a.makes.effect (member_pushed n (joining s kind now lease) s.members (λ e. omega arith))
+others_stay s s2 (Join kind now lease) n a lt own out =
+    rw a.makes.effect (member_pushed n (joining s kind now lease) s.members (λ e. omega arith))
 others_stay s s2 (Leave member) n a lt own out = rw a.makes.effect (member_without n member s.members (not_own member n own))
-others_stay s s2 (Renew member now) n a lt own out = rw a.makes.effect (member_changed n member _ s.members (λ m. refl) (not_own member n own))
-others_stay s s2 (Advance member to) n a lt own out = rw a.makes.effect (member_changed n member _ s.members (λ m. refl) (not_own member n own))
+others_stay s s2 (Renew member now) n a lt own out =
+    rw a.makes.effect (member_changed n member _ s.members (λ m. refl) (not_own member n own))
+others_stay s s2 (Advance member to) n a lt own out =
+    rw a.makes.effect (member_changed n member _ s.members (λ m. refl) (not_own member n own))
 others_stay s s2 (Expire now) n a lt own out = absurd (out now refl)
-others_stay s s2 (Append member token expected new parts rows weight) n a lt own out = rw a.makes.effect (member_changed n member _ s.members (λ m. refl) (not_own member n own))
-others_stay s s2 (Merge member token left right merged) n a lt own out = rw a.makes.effect (member_changed n member _ s.members (λ m. refl) (not_own member n own))
+others_stay s s2 (Append member token expected new parts rows weight) n a lt own out =
+    rw a.makes.effect (member_changed n member _ s.members (λ m. refl) (not_own member n own))
+others_stay s s2 (Merge member token left right merged) n a lt own out =
+    rw a.makes.effect (member_changed n member _ s.members (λ m. refl) (not_own member n own))
 
 -- a member stood with this token
 abbrev Stood : ShardState → ℕ → Member → Type 0
 Stood s n w = (m : Member) × (member_of n s.members ≡ Some m) × (w.token ≡ m.token)
 
 -- a member that was changed, but not in its token, stood with that token
-token_changed : (n k : ℕ) (f : Member → Member) (w : Member) (ms : List Member) → ((m : Member) → ((f m).number ≡ m.number) × ((f m).token ≡ m.token)) → member_of n (changed k f ms) ≡ Some w
+token_changed : (n k : ℕ) (f : Member → Member) (w : Member) (ms : List Member)
+    → ((m : Member) → ((f m).number ≡ m.number) × ((f m).token ≡ m.token)) → member_of n (changed k f ms) ≡ Some w
     → (m : Member) × (member_of n ms ≡ Some m) × (w.token ≡ m.token)
 token_changed n k f w [] same h = cc
 token_changed n k f w (m ∷ ms) same h = elim (bool_cases (eqb m.number n)) [
@@ -143,11 +158,14 @@ token_changed n k f w (m ∷ ms) same h = elim (bool_cases (eqb m.number n)) [
 stood_as : (s : ShardState) (n : ℕ) (w : Member) → member_of n s.members ≡ Some w → Stood s n w
 stood_as s n w h = (w, h, refl)
 
-pub token_stays : (s s2 : ShardState) (x : Transition) (n : ℕ) (w : Member) → IsState s → Applies s x s2 → n < s.next_member → ((t : ℕ) → ¬ Spends x n t) → member_of n s2.members ≡ Some w → (m : Member) × (member_of n s.members ≡ Some m) × (w.token ≡ m.token)
+pub token_stays : (s s2 : ShardState) (x : Transition) (n : ℕ) (w : Member) → IsState s → Applies s x s2 → n < s.next_member
+    → ((t : ℕ) → ¬ Spends x n t) → member_of n s2.members ≡ Some w
+    → (m : Member) × (member_of n s.members ≡ Some m) × (w.token ≡ m.token)
 token_stays s s2 Init n w r a lt own h = absurd a.makes
 token_stays s s2 (Join kind now lease) n w r a lt own h =
     stood_as s n w (sym (member_pushed n (joining s kind now lease) s.members (λ e. omega arith)) ∙ subst (λ (t : ShardState). member_of n t.members ≡ Some w) a.makes.effect h)
-token_stays s s2 (Leave member) n w r a lt own h = stood_as s n w (left s.members (subst (λ (t : ShardState). member_of n t.members ≡ Some w) a.makes.effect h))
+token_stays s s2 (Leave member) n w r a lt own h =
+    stood_as s n w (left s.members (subst (λ (t : ShardState). member_of n t.members ≡ Some w) a.makes.effect h))
   where
     left : (ms : List Member) → member_of n (without member ms) ≡ Some w → member_of n ms ≡ Some w
     left [] g = g
@@ -173,8 +191,10 @@ token_stays s s2 (Leave member) n w r a lt own h = stood_as s n w (left s.member
               let past : eqb x.number n ≡ false = ne_eqb x.number n ne in
               gone ms p q (rw past at g2)
         ]
-token_stays s s2 (Renew member now) n w r a lt own h = token_changed n member _ w s.members (λ m. (refl, refl)) (subst (λ (t : ShardState). member_of n t.members ≡ Some w) a.makes.effect h)
-token_stays s s2 (Advance member to) n w r a lt own h = token_changed n member _ w s.members (λ m. (refl, refl)) (subst (λ (t : ShardState). member_of n t.members ≡ Some w) a.makes.effect h)
+token_stays s s2 (Renew member now) n w r a lt own h =
+    token_changed n member _ w s.members (λ m. (refl, refl)) (subst (λ (t : ShardState). member_of n t.members ≡ Some w) a.makes.effect h)
+token_stays s s2 (Advance member to) n w r a lt own h =
+    token_changed n member _ w s.members (λ m. (refl, refl)) (subst (λ (t : ShardState). member_of n t.members ≡ Some w) a.makes.effect h)
 token_stays s s2 (Expire now) n w r a lt own h = stood_as s n w (expire_keeps s s2 now n w r a h)
 token_stays s s2 (Append member token expected new parts rows weight) n w r a lt own h =
     stood_as s n w (sym (member_changed n member _ s.members (λ m. refl) (λ e. own token (e, refl))) ∙ subst (λ (t : ShardState). member_of n t.members ≡ Some w) a.makes.effect h)
@@ -197,9 +217,12 @@ named_still s s2 (Append member token expected new parts rows weight) k a h =
 named_still s s2 (Merge member token left right merged) k a h =
     let kb = keys_of a.makes.before in
     let kh = keys_of a.makes.behind in
-    let was : keys_of s.batches ≡ kb ++ (left.parts ++ (right.parts ++ kh)) = ap keys_of a.makes.present ∙ keys-append a.makes.before (left ∷ right ∷ a.makes.behind) in
-    let fits : keys_of s2.batches ≡ kb ++ (merged.parts ++ kh) = ap (λ (t : ShardState). keys_of t.batches) a.makes.effect ∙ keys-append a.makes.before (merged ∷ a.makes.behind) in
-    let back : Among (Is k) (kb ++ (merged.parts ++ kh)) → Names s2 k = subst (λ (qs : List PartKey). Among (Is k) qs) (sym fits) in
+    let was : keys_of s.batches ≡ kb ++ (left.parts ++ (right.parts ++ kh)) =
+    ap keys_of a.makes.present ∙ keys-append a.makes.before (left ∷ right ∷ a.makes.behind) in
+    let fits : keys_of s2.batches ≡ kb ++ (merged.parts ++ kh) =
+    ap (λ (t : ShardState). keys_of t.batches) a.makes.effect ∙ keys-append a.makes.before (merged ∷ a.makes.behind) in
+    let back : Among (Is k) (kb ++ (merged.parts ++ kh)) → Names s2 k =
+    subst (λ (qs : List PartKey). Among (Is k) qs) (sym fits) in
     elim (among_split (Is k) kb _ (subst (λ (qs : List PartKey). Among (Is k) qs) was h)) [
       | inl g ↦ inl (back (among_front (Is k) kb _ g))
       | inr g ↦ elim (among_split (Is k) left.parts _ g) [

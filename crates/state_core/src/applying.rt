@@ -128,8 +128,10 @@ impl State {
         weight: u64,
     ) -> Result<(), AllocError>
         requires fresh { batch.desc.since ≡ 0 }
-        requires unrefused { refusal_of self.old (Transition.Append member token batch.desc.lower batch.desc.upper batch.parts batch.rows weight) ≡ None }
-        ensures ok { OnOk result (Applies self.old (Transition.Append member token batch.desc.lower batch.desc.upper batch.parts batch.rows weight) self.new) }
+        requires unrefused { let step = Transition.Append member token batch.desc.lower batch.desc.upper batch.parts batch.rows weight in
+            refusal_of self.old step ≡ None }
+        ensures ok { let step = Transition.Append member token batch.desc.lower batch.desc.upper batch.parts batch.rows weight in
+            OnOk result (Applies self.old step self.new) }
         ensures err { OnErr result (self.new ≡ self.old) }
     {
         let next = self.number + 1;

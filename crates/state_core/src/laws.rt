@@ -58,7 +58,8 @@ pub fn taken_unnamed()
 
 /// A key that was named is named, but where the transition takes it; a key that it adds is named.
 pub fn named_still()
-    ensures still { (s next : ShardState) (x : Transition) (k : PartKey) → Applies s x next → Names s k → Names next k ⊎ Takes x k }
+    ensures still { (s next : ShardState) (x : Transition) (k : PartKey) → Applies s x next
+        → Names s k → Names next k ⊎ Takes x k }
     ensures added { (s next : ShardState) (x : Transition) (k : PartKey) → Applies s x next → Adds x k → Names next k }
 {}
 
@@ -66,8 +67,8 @@ pub fn named_still()
 pub fn batches_stay()
     ensures others { (s next : ShardState) (x : Transition) → Applies s x next → brings_batch x ≡ false
         → (next.batches ≡ s.batches) × (next.upper ≡ s.upper) × (next.weight ≡ s.weight) }
-    ensures merge { (s next : ShardState) (member token : ℕ) (left right merged : Batch) → Applies s (Merge member token left right merged) next
-        → (next.upper ≡ s.upper) × (next.weight ≡ s.weight) }
+    ensures merge { (s next : ShardState) (member token : ℕ) (left right merged : Batch)
+        → Applies s (Merge member token left right merged) next → (next.upper ≡ s.upper) × (next.weight ≡ s.weight) }
 {}
 
 /// A member that had joined and isn't the transition's own stands as it stood or, where leases end, is gone at most.
@@ -80,7 +81,8 @@ pub fn others_stay()
 
 /// A member that had joined and stands has the token that it had, but where the transition spends one of its tokens.
 pub fn token_stays()
-    ensures { (s next : ShardState) (x : Transition) (n : ℕ) (m : Member) → IsState s → Applies s x next → n < s.next_member → ((t : ℕ) → ¬ Spends x n t)
+    ensures { (s next : ShardState) (x : Transition) (n : ℕ) (m : Member) → IsState s → Applies s x next → n < s.next_member
+        → ((t : ℕ) → ¬ Spends x n t)
         → member_of n next.members ≡ Some m → (old : Member) × (member_of n s.members ≡ Some old) × (m.token ≡ old.token) }
 {}
 

@@ -24,3 +24,6 @@ pub use states::State;
 pub use transitions::Transition;
 pub use version_encoding::encode_version;
 pub use version_faults::VersionFault;
+
+#[cfg(test)]
+mod tests;

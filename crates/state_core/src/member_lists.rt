@@ -1,5 +1,5 @@
 // MemberList: members in order.
-ghost use Rattle.std.specs.Prelude.{◌≡◌, [], ◌∷◌, ◌++◌, ◌==◌, not, min, max, map, filter, if◌then◌else◌, Some, None, option_copied, IfOk, OnOk, OnErr};
+ghost use Rattle.std.specs.Prelude.{◌≡◌, [], ◌∷◌, ◌++◌, ◌==◌, not, min, max, map, filter, if◌then◌else◌, option_copied, IfOk, OnOk, OnErr};
 ghost use Rattle.std.specs.List.{list_any};
 ghost use Rattle.state_core.specs.Refusals.{member_of};
 ghost use Rattle.state_core.specs.States.{MembersRise, is_reader, is_writer, least_hold, least_since, or_least};

@@ -1,6 +1,5 @@
 // Members of a shard.
-ghost use Rattle.std.specs.Prelude.{◌≡◌, min, if◌then◌else◌};
-ghost use Rattle.state_core.specs.States.{is_writer};
+ghost use Rattle.std.specs.Prelude.{◌≡◌};
 ghost use Rattle.state_core.specs.Steps.{is_out};
 
 use crate::kinds::Kind;

@@ -1,11 +1,11 @@
 // Why a transition is refused, by looking at a state alone. Nothing here takes memory.
-ghost use Rattle.std.specs.Prelude.{◌≡◌, ◌+◌, ◌^◌, ◌&&◌, ◌==◌, ◌∷◌, not, length, nat_le, nat_lt, Some, None, option_copied, if◌then◌else◌};
-ghost use Rattle.std.specs.List.{list_any};
+ghost use Rattle.std.specs.Prelude.{◌≡◌, ◌+◌, ◌^◌, not, nat_le, nat_lt, Some, None, if◌then◌else◌};
 ghost use Rattle.update_core.specs.Frontiers.{frontier_eq};
-ghost use Rattle.state_core.specs.Refusals.{any_kind, are_keys, follows, is_key, is_keeper, is_part_count, is_shaped, member_of, of_member, refusal_by_kind, refusal_of, same_batch};
+ghost use Rattle.state_core.specs.Refusals.{any_kind, are_keys, follows, is_key, is_keeper, is_part_count, is_shaped};
+ghost use Rattle.state_core.specs.Refusals.{of_member, refusal_by_kind, refusal_of};
 ghost use Rattle.state_core.specs.States.{is_reader, is_writer};
-ghost use Rattle.state_core.specs.Steps.{is_out};
-ghost use Rattle.state_core.specs.declared.refusals.Refusal.TheVariants.{NoMember, TokenOld, UpperIs, Heavy, Back, MembersFull, NotPresent};
+ghost use Rattle.state_core.specs.declared.refusals.Refusal.TheVariants.{TokenOld, UpperIs, Heavy, Back};
+ghost use Rattle.state_core.specs.declared.refusals.Refusal.TheVariants.{MembersFull, NotPresent};
 
 use crate::members::Member;
 use crate::refusals::Refusal;
@@ -190,8 +190,8 @@ fn merge_refusal(
 }
 
 impl State {
-    /// The first refusal that the transition meets, or None where it applies. It takes no memory, and `apply` answers it
-    /// wherever memory isn't refused.
+    /// The first refusal that the transition meets, which is what `apply` answers, or None where it applies. It takes no
+    /// memory.
     pub fn refusal_of(&self, step: &Transition) -> Option<Refusal>
         ensures { result ≡ refusal_of self.now step.now }
     {
