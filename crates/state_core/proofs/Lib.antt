@@ -18,3 +18,9 @@ pub mod VersionSteps
 pub mod VersionTransitions
 pub mod VersionStates
 pub mod VersionFacts
+pub mod MemberLoops
+pub mod Following
+pub mod MemberChanges
+pub mod Applied
+pub mod Staying
+pub mod NoMemory

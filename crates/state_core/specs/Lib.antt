@@ -4,3 +4,6 @@ pub mod Steps
 pub mod Refusals
 pub mod Versions
 pub mod VersionReading
+pub mod Applying
+pub mod KeySets
+pub mod VersionDrafts

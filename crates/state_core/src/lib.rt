@@ -1,16 +1,21 @@
 //! The state of a shard, and the transitions that make one state of another.
 #![tactic(auto)]
 
+mod applying;
+mod key_sets;
 mod kinds;
 pub mod laws;
 mod member_lists;
 mod members;
 mod refusals;
+mod refusing;
 mod states;
 mod transitions;
+mod version_drafts;
 mod version_encoding;
 mod version_faults;
 mod version_fields;
+mod version_heads;
 pub mod version_laws;
 
 pub use kinds::Kind;
