@@ -24,3 +24,6 @@ pub mod MemberChanges
 pub mod Applied
 pub mod Staying
 pub mod NoMemory
+pub mod VersionLoops
+pub mod VersionMemberLoops
+pub mod VersionLast

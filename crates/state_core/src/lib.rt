@@ -11,6 +11,7 @@ mod refusals;
 mod refusing;
 mod states;
 mod transitions;
+mod version_batches;
 mod version_drafts;
 mod version_encoding;
 mod version_faults;

@@ -1,5 +1,5 @@
 // Reading of the fields of a state, and of its members.
-ghost use Rattle.std.specs.Prelude.{◌≡◌, ◌≤◌, ◌<◌, ◌^◌, ◌+◌, [], length, IfOk};
+ghost use Rattle.std.specs.Prelude.{◌≡◌, ◌≤◌, ◌<◌, ◌^◌, ◌+◌, ◌*◌, [], length, IfOk};
 ghost use Rattle.std.specs.Int.{w16};
 ghost use Rattle.store_core.specs.Stores.{last_of};
 ghost use Rattle.state_core.specs.Steps.{init};
@@ -12,7 +12,9 @@ use crate::member_lists::MemberList;
 use crate::members::Member;
 use crate::version_drafts::Draft;
 use crate::version_faults::VersionFault;
-use crate::version_fields::{next_frontier, next_kind, next_limited, next_u16, next_u64, place_of};
+use crate::version_fields::{
+    frontier_of, next_frontier, next_kind, next_limited, next_u16, next_u64, place_of,
+};
 use spine_core::Spine;
 use std::alloc::Global;
 use store_core::ShardId;
@@ -29,7 +31,9 @@ pub(crate) fn next_head(
     number: u64,
     bytes: &[u8],
 ) -> Result<(Draft, &[u8]), VersionFault>
-    ensures { Gives (λ x. (drafted x.0, x.1.now)) result (head_at total (record (init shard) { number = number }) bytes.now) }
+    ensures read { Gives (λ x. (drafted x.0, x.1.now)) result (head_at total (record (init shard) { number = number }) bytes.now) }
+    ensures no_member { IfOk result (λ x. x.0.members ≡ []) }
+    ensures no_batch { IfOk result (λ x. x.0.spine ≡ []) }
 {
     let (next_member, rest) = next_limited(total, number, bytes)?;
     let (since, rest) = next_u64(total, rest)?;
@@ -40,7 +44,7 @@ pub(crate) fn next_head(
         number,
         next_member,
         since,
-        upper,
+        upper: frontier_of(upper),
         weight,
         members: MemberList::new(alloc),
         spine: Spine::new(alloc),
@@ -126,7 +130,9 @@ fn next_members(
     count: u16,
     bytes: &[u8],
 ) -> Result<(Draft, &[u8]), VersionFault>
-    ensures { Gives (λ x. (drafted x.0, x.1.now)) result (members_at total (drafted draft) count bytes.now) }
+    ensures read { Gives (λ x. (drafted x.0, x.1.now)) result (members_at total (drafted draft) count bytes.now) }
+    ensures count { IfOk result (λ x. length x.0.members ≡ length draft.members + count) }
+    ensures spine { IfOk result (λ x. x.0.spine ≡ draft.spine) }
 {
     let mut draft = draft;
     let mut rest = bytes;
@@ -154,15 +160,16 @@ fn next_member_count(total: usize, bytes: &[u8]) -> Result<(u16, &[u8]), Version
 
 // The place of the last reader's since, where the members begin at `start`: each has 49 bytes, and its since is from the tenth on.
 fn reader_place(start: u64, members: &[Member]) -> u64
+    requires { start + 49 * length members.now + 9 < 2 ^ 64 }
     ensures { result ≡ reader_place 0 start members.now }
 {
     let mut found = 0;
     let mut place = start;
     for member in members {
         if member.kind.is_reader() {
-            found = place.saturating_add(9);
+            found = place + 9;
         }
-        place = place.saturating_add(49);
+        place += 49;
     }
     found
 }
@@ -182,7 +189,10 @@ pub(crate) fn all_members(
     draft: Draft,
     bytes: &[u8],
 ) -> Result<(Draft, &[u8]), VersionFault>
-    ensures { Gives (λ x. (drafted x.0, x.1.now)) result (all_members_at total (drafted draft) bytes.now) }
+    requires small { total < 2 ^ 63 }
+    requires none { draft.members ≡ [] }
+    ensures read { Gives (λ x. (drafted x.0, x.1.now)) result (all_members_at total (drafted draft) bytes.now) }
+    ensures spine { IfOk result (λ x. x.0.spine ≡ draft.spine) }
 {
     let (count, rest) = next_member_count(total, bytes)?;
     let start = place_of(total, rest);
