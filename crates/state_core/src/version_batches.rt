@@ -1,11 +1,11 @@
 // Reading of the batches of a state.
-ghost use Rattle.std.specs.Prelude.{◌≡◌, ◌≤◌, ◌<◌, ◌-◌, true, [], ◌∷◌, ◌++◌, IfOk, OnOk};
+ghost use Rattle.std.specs.Prelude.{◌≡◌, ◌≤◌, ◌<◌, ◌-◌, true, [], ◌∷◌, ◌++◌, IfOk, IfErr, OnOk};
 ghost use Rattle.spine_core.specs.Spines.{rows_of, spine_upper};
 ghost use Rattle.update_core.specs.Frontiers.{covers, is_at};
 ghost use Rattle.state_core.specs.Refusals.{is_part_count, member_of};
 ghost use Rattle.state_core.specs.States.{keys_of};
 ghost use Rattle.state_core.specs.VersionDrafts.{drafted};
-ghost use Rattle.state_core.specs.VersionReading.{Gives, most_spent, index_at, key_at, keys_at, lower_at, may_end, upper_at, part_count_at, batch_at, batches_at, batch_count_at, all_batches_at};
+ghost use Rattle.state_core.specs.VersionReading.{Gives, limited_at, most_spent, index_at, key_at, keys_at, lower_at, may_end, upper_at, part_count_at, batch_at, batches_at, batch_count_at, all_batches_at};
 
 use crate::key_sets::KeySet;
 use crate::member_lists::MemberList;
@@ -14,7 +14,7 @@ use crate::version_faults::VersionFault;
 use crate::version_fields::{
     frontier_of, next_below, next_frontier, next_limited, next_u64, place_of,
 };
-use spine_core::{Batch, Desc, KeyList};
+use spine_core::{Batch, Desc, KeyList, Spine};
 use std::alloc::Global;
 use store_core::{PartKey, ShardId};
 
@@ -210,6 +210,19 @@ fn next_batch<'a>(
     Ok((batch, seen, rest))
 }
 
+// Puts a batch at the end that is from the spine's upper on, so that only memory can be refused.
+fn put_batch(spine: &mut Spine, batch: Batch) -> Result<(), VersionFault>
+    requires follows { is_at (spine_upper spine.old) batch.desc.lower ≡ true }
+    requires covers { covers batch.desc.upper batch.desc.lower ≡ true }
+    ensures ok { OnOk result (spine.new ≡ spine.old ++ batch ∷ []) }
+    ensures err { IfErr result (λ fault. fault ≡ VersionFault.Memory) }
+{
+    match spine.push(batch) {
+        Ok(()) => Ok(()),
+        Err(_) => Err(VersionFault::Memory),
+    }
+}
+
 fn next_batches(
     alloc: Global,
     total: usize,
@@ -236,10 +249,7 @@ fn next_batches(
         )?;
         left -= batch.rows;
         seen = more;
-        // The batch is from the upper on: only memory can be refused.
-        if draft.spine.push(batch).is_err() {
-            return Err(VersionFault::Memory);
-        }
+        put_batch(&mut draft.spine, batch)?;
         rest = after;
     }
     Ok((draft, rest))

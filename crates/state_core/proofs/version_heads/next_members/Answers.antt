@@ -11,8 +11,8 @@ returns-in_err-member-clause-read c =
     let total = c.args.total in
     let p = err_from_is_err_and c.from_residual.result c.from_residual.ensures.1 in
     rw (p.1, p.2)
-        (ends (members_at total) (λ s n bytes. member_at total s bytes) with_member (members_read total) c.in_err-member.field-0.0 (drafted c.loop.draft) c.args.count c.loop.counter c.loop.rest.now
-            (members_at total (drafted c.args.draft) c.args.count c.args.bytes.now) c.loop-test.true c.in_err-member.ensures c.loop.invariant.read)
+    (ends (members_at total) (λ s n bytes. member_at total s bytes) with_member (members_read total) c.in_err-member.field-0.0 (drafted c.loop.draft) c.args.count c.loop.counter c.loop.rest.now
+    (members_at total (drafted c.args.draft) c.args.count c.args.bytes.now) c.loop-test.true c.in_err-member.ensures c.loop.invariant.read)
 
 pub loop-preserved : goal.loop-preserved
 loop-preserved c =
@@ -21,7 +21,7 @@ loop-preserved c =
     record {
       read = rw c.in_ok-push.ensures.ok
           (goes_on (members_at total) (λ s n bytes. member_at total s bytes) with_member (members_read total) (drafted c.loop.draft) c.args.count c.loop.counter c.loop.rest.now m c.in_ok-member.after.now
-              (members_at total (drafted c.args.draft) c.args.count c.args.bytes.now) c.loop-test.true c.in_ok-member.ensures c.loop.invariant.read);
+          (members_at total (drafted c.args.draft) c.args.count c.args.bytes.now) c.loop-test.true c.in_ok-member.ensures c.loop.invariant.read);
       count = rw c.in_ok-push.ensures.ok (omega (arith, length-append c.loop.draft.members (m ∷ []), c.loop.invariant.count));
       spine = c.loop.invariant.spine;
     }
@@ -30,4 +30,4 @@ pub returns-clause-read : goal.returns-clause-read
 returns-clause-read c =
     let total = c.args.total in
     is_done (members_at total) (λ s n bytes. member_at total s bytes) with_member (members_read total) (drafted c.loop.draft) c.args.count c.loop.counter c.loop.rest.now
-        (members_at total (drafted c.args.draft) c.args.count c.args.bytes.now) c.loop-test.false c.loop.invariant.read
+    (members_at total (drafted c.args.draft) c.args.count c.args.bytes.now) c.loop-test.false c.loop.invariant.read
