@@ -1,26 +1,22 @@
 // Reading of a transition.
 ghost use Rattle.std.specs.Prelude.{◌≡◌, [], ◌∷◌, ◌++◌};
-ghost use Rattle.state_core.specs.Steps.{acts_for};
+ghost use Rattle.state_core.specs.Steps.{init, acts_for};
 ghost use Rattle.state_core.specs.VersionDrafts.{drafted};
 ghost use Rattle.state_core.specs.VersionReading.{Gives, step_key_at, step_keys_at, counted_keys_at, step_batch_at, join_at, one_at, two_at, append_at, merge_at, fields_at, whole_step_at, is_shaped_alone, is_below, step_at};
 
+use crate::member_lists::MemberList;
 use crate::states::State;
 use crate::transitions::Transition;
 use crate::version_drafts::Draft;
 use crate::version_faults::VersionFault;
-use crate::version_fields::{
-    frontier_of, next_byte, next_frontier, next_kind, next_u64, place_of,
-};
-use spine_core::{Batch, Desc, KeyList};
+use crate::version_fields::{frontier_of, next_byte, next_frontier, next_kind, next_u64, place_of};
+use spine_core::{Batch, Desc, KeyList, Spine};
 use std::alloc::Global;
 use store_core::{PartKey, ShardId};
+use update_core::Frontier;
 
 #[tactic(auto, unfolding(crate::specs::VersionReading::step_key_at))]
-fn next_key(
-    total: usize,
-    shard: ShardId,
-    bytes: &[u8],
-) -> Result<(PartKey, &[u8]), VersionFault>
+fn next_key(total: usize, shard: ShardId, bytes: &[u8]) -> Result<(PartKey, &[u8]), VersionFault>
     ensures { Gives (λ x. (x.0, x.1.now)) result (step_key_at total shard bytes.now) }
 {
     let (member, rest) = next_u64(total, bytes)?;
@@ -225,16 +221,39 @@ fn next_whole_step(
     next_step_fields(alloc, total, shard, bytes, tag, rest)
 }
 
+impl State {
+    // The first state with another since.
+    fn init_since(alloc: Global, shard: ShardId, since: u64) -> State
+        ensures { result ≡ record (init shard) { since = since } }
+    {
+        State {
+            shard,
+            number: 0,
+            next_member: 0,
+            since,
+            upper: Frontier::at(0),
+            weight: 0,
+            members: MemberList::new(alloc),
+            spine: Spine::new(alloc),
+        }
+    }
+}
+
 // Whether a transition keeps the rules of its shape that don't speak of the state before.
 fn is_shaped_alone(alloc: Global, shard: ShardId, step: &Transition) -> bool
     ensures { result ≡ is_shaped_alone shard step.now }
 {
     match step {
         Transition::Merge { merged, .. } => {
-            State::before_merge(alloc, shard, merged.desc.since).is_shaped(step)
+            State::init_since(alloc, shard, merged.desc.since).is_shaped(step)
         }
+        Transition::Join { .. } => State::init(alloc, shard).is_shaped(step),
+        Transition::Append { .. } => State::init(alloc, shard).is_shaped(step),
         Transition::Init => true,
-        _ => State::init(alloc, shard).is_shaped(step),
+        Transition::Leave { .. } => true,
+        Transition::Renew { .. } => true,
+        Transition::Advance { .. } => true,
+        Transition::Expire { .. } => true,
     }
 }
 
@@ -243,12 +262,14 @@ fn acts_for(step: &Transition) -> Option<u64>
     ensures { result ≡ acts_for step.now }
 {
     match step {
-        Transition::Leave { member }
-        | Transition::Renew { member, .. }
-        | Transition::Advance { member, .. }
-        | Transition::Append { member, .. }
-        | Transition::Merge { member, .. } => Some(*member),
-        _ => None,
+        Transition::Init => None,
+        Transition::Join { .. } => None,
+        Transition::Expire { .. } => None,
+        Transition::Leave { member } => Some(*member),
+        Transition::Renew { member, .. } => Some(*member),
+        Transition::Advance { member, .. } => Some(*member),
+        Transition::Append { member, .. } => Some(*member),
+        Transition::Merge { member, .. } => Some(*member),
     }
 }
 
