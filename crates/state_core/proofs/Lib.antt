@@ -27,3 +27,4 @@ pub mod NoMemory
 pub mod VersionLoops
 pub mod VersionMemberLoops
 pub mod VersionLast
+pub mod VersionDecoded

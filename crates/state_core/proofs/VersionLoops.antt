@@ -1,5 +1,5 @@
 -- Reading one after the other, as a loop does.
-use Rattle.std.proofs.Common.{◌≡◌, ℕ, suc, ◌-◌, ◌+◌, ◌≤◌, ◌<◌, Some, List, [], ◌∷◌, length, get_or, Result, Ok, Err, refl, sym, ap, ◌∙◌, arith}
+use Rattle.std.proofs.Common.{◌≡◌, ℕ, suc, ◌-◌, ◌+◌, ◌≤◌, ◌<◌, Some, List, [], ◌∷◌, length, get_or, Result, Ok, sym, ap, ◌∙◌, arith}
 use Rattle.store_core.specs.Stores.{last_of}
 use Rattle.state_core.specs.declared.version_faults.VersionFault.{VersionFault}
 use Rattle.state_core.specs.declared.version_faults.VersionFault.TheVariants as faults

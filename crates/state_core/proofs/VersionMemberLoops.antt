@@ -1,9 +1,9 @@
 -- Members, keys and batches are read one after the other.
-use Rattle.std.proofs.Common.{◌≡◌, ◌==◌, ℕ, suc, ◌+◌, ◌-◌, ◌<◌, inl, inr, sym, ◌∙◌, ◌∷◌, [], ◌++◌, List, drop, length, cond, eqb, refl, arith, if◌then◌else◌}
+use Rattle.std.proofs.Common.{◌≡◌, ◌==◌, ℕ, ◌+◌, ◌-◌, ◌<◌, inl, inr, sym, ◌∙◌, ◌∷◌, [], ◌++◌, List, eqb, refl, arith}
 use Rattle.std.proofs.lemmas.Bool.{eq-eqb, eqb-true, eqb-false, ne_eqb}
 use Rattle.store_core.specs.declared.shards.ShardId.{ShardId}
 use Rattle.store_core.specs.declared.part_keys.PartKey.{PartKey}
-use Rattle.state_core.specs.States.{ShardState, keys_of, is_reader}
+use Rattle.state_core.specs.States.{ShardState, keys_of}
 use Rattle.state_core.specs.VersionReading.{member_at, members_at, with_member, key_at, keys_at, batch_at, batches_at, with_batch, step_key_at, step_keys_at}
 use Rattle.state_core.proofs.ListLemmas.{bool_cases}
 use Rattle.state_core.proofs.VersionLoops.{Reads}

@@ -83,7 +83,7 @@ pub fn decode_version(
     // What is read is a version of this shard and number.
     ensures found { IfOk result (λ x. VersionOf x.0 x.1 bytes.now × (x.0.shard ≡ shard) × (x.0.number ≡ number)) }
     // A version of this shard and number is read, unless memory runs out.
-    ensures only { (s : ShardState) (x : Step) → s.shard ≡ shard → s.number ≡ number → VersionOf s x bytes.now → Gives (λ y. (y.0, y.1)) result (Ok (s, x)) }
+    ensures only { (s : ShardState) (x : Step) → s.shard ≡ shard → s.number ≡ number → VersionOf s x bytes.now → Gives {Y = ShardState × Step} (λ y. (y.0, y.1)) result (Ok (s, x)) }
     // Which fault it is, and where.
     ensures exact { Gives (λ y. (y.0, y.1)) result (read_version shard number bytes.now) }
 {
