@@ -30,3 +30,6 @@ pub use transitions::Transition;
 pub use version_decoding::decode_version;
 pub use version_encoding::encode_version;
 pub use version_faults::VersionFault;
+
+#[cfg(test)]
+mod version_tests;
