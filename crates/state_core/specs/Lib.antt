@@ -2,7 +2,9 @@ pub mod Lists
 pub mod States
 pub mod Steps
 pub mod Refusals
-pub mod Applying
 pub mod Versions
 pub mod VersionReading
 pub mod Tokens
+pub mod Applying
+pub mod KeySets
+pub mod VersionDrafts

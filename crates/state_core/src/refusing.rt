@@ -255,7 +255,7 @@ impl State {
     }
 
     // Whether the transition keeps the rules of its shape.
-    fn is_shaped(&self, step: &Transition) -> bool
+    pub(crate) fn is_shaped(&self, step: &Transition) -> bool
         ensures { result ≡ is_shaped self.now step.now }
     {
         match step {
