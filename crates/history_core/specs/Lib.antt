@@ -4,6 +4,7 @@ pub mod Discipline
 pub mod Stands
 pub mod Questions
 pub mod Walks
+pub mod WalkViews
 pub mod Accepting
 pub mod Laws
 pub mod Worked
