@@ -6,3 +6,4 @@ pub mod Rules
 pub mod Determined
 pub mod Refused
 pub mod Rising
+pub mod VersionFacts

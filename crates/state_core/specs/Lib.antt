@@ -2,3 +2,4 @@ pub mod Lists
 pub mod States
 pub mod Steps
 pub mod Refusals
+pub mod Versions

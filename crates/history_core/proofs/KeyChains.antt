@@ -1,0 +1,124 @@
+-- Keys that versions name and take, along a chain.
+use Rattle.std.proofs.Common.{◌≡◌, ◌&&◌, ℕ, zero, suc, ◌+◌, ◌-◌, ◌<◌, ◌≤◌, Bool, true, false, cond, List, [], ◌∷◌, ◌++◌, ◌⊎◌, inl, inr, refl, arith, subst, sym, ap, ◌∙◌, eqb, Some, None, Option, length}
+use Rattle.std.proofs.lemmas.Bool.{eqb-true, eqb-false, eq-eqb, ne_eqb}
+use Rattle.std.specs.List.{AllByRecursion}
+use Rattle.std.specs.Prelude.{not, reverse}
+use Rattle.std.specs.Ordering.{is_eq}
+use Rattle.state_core.specs.Lists.{Among}
+use Rattle.state_core.proofs.ListLemmas.{bool_cases, each_among}
+use Rattle.update_core.specs.declared.updates.Update.{Update}
+use Rattle.store_core.specs.declared.shards.ShardId.{ShardId}
+use Rattle.store_core.specs.declared.part_keys.PartKey.{PartKey}
+use Rattle.store_core.specs.declared.versions.Version.{Version}
+use Rattle.store_core.specs.declared.calls.Call.{Call}
+use Rattle.store_core.specs.declared.calls.Call.TheVariants as calls
+use Rattle.store_core.specs.declared.replies.Reply.{Reply}
+use Rattle.store_core.specs.declared.replies.Reply.TheVariants as replies
+use Rattle.store_core.specs.declared.outcomes.Outcome.{Outcome}
+use Rattle.store_core.specs.declared.outcomes.Outcome.TheVariants.{Took, FailedTook, FailedLost}
+use Rattle.store_core.specs.declared.entries.Entry.{Entry}
+use Rattle.store_core.specs.Stores.{Log, Stored, no_log, shard_cmp, key_cmp, set_at, same_number, last_number, is_last_number, next_number, committed, truncated, cas_log, cas_reply, reply_of, after_call}
+use Rattle.store_core.specs.Histories.{after_outcome, reply_by, reply}
+use Rattle.store_core.specs.Ports.{Answered, answered}
+use Rattle.store_core.specs.Newest.{replay_back, mine_back}
+use Rattle.state_core.specs.declared.kinds.Kind.{Kind}
+use Rattle.state_core.specs.declared.transitions.Transition.{Transition}
+use Rattle.state_core.specs.declared.transitions.Transition.TheVariants.{Init, Join, Leave, Renew, Advance, Expire, Append, Merge}
+use Rattle.state_core.specs.States.{ShardState, IsState, KeyFits, Names, floor}
+use Rattle.state_core.specs.Steps.{Applies, Takes, Adds, Spends, acts_for, init}
+use Rattle.state_core.specs.Versions.{version_in}
+use Rattle.state_core.proofs.VersionFacts.{version_in_state, version_in_shard, version_in_number}
+use Rattle.history_core.specs.Readings.{rows_in}
+use Rattle.history_core.specs.Histories.{same_shard, version_at, commits, took_effect, Told, Shows, grown, ever}
+use Rattle.history_core.specs.Discipline.{JoinsAs, IsJoin, Owns, OwnsSome, SpendsIn, IsCasUnder, SetsSame, IsStored, IsGot, StoredAs, GotAs, SetAllowed, Hold, Holds, AppendHolds, MergeHolds, CasAllowed, TakesIn, TakenUpTo, NewestIs, IsScanTaking, AllDeleted, IsScanCovering, Allows, OwnLawful, LawfulBack}
+use Rattle.history_core.specs.Stands.{read_version, VersionIs, StateIn, end_of, IsLast, TakenIn, IsChain, KeysKept, KeysIn, StateAt, IsPresent}
+use Rattle.state_core.proofs.Keys.{fits_on, names_fit, named_after, added_fresh, taken_named, taken_unnamed, added_of}
+use Rattle.history_core.proofs.Chains.{Commit, after_commit, version_below, bytes_of, either_version}
+
+-- a key fits a state of its shard
+abbrev pub Fits : ShardId → ShardState → PartKey → Type 0
+Fits shard s k = KeyFits shard s.next_member s.members k
+
+module _ (shard : ShardId) (log : Log) (bytes : List ℕ) (c : Commit shard log bytes) (kept : KeysIn shard log c.from) where
+  pub from_state : IsState c.from
+  from_state = let (b, there, reads) = bytes-from in version_in_state shard c.n b c.from c.from_is.0 reads
+    where
+      bytes-from : (b : List ℕ) × (version_at log c.n ≡ Some b) × (version_in shard c.n b ≡ Some (c.from, c.from_is.0))
+      bytes-from = bytes_of shard log c.n c.from c.from_is.0 c.from_is.1
+
+  pub from_shard : c.from.shard ≡ shard
+  from_shard = let (b, there, reads) = bytes_of shard log c.n c.from c.from_is.0 c.from_is.1 in version_in_shard shard c.n b c.from c.from_is.0 reads
+
+  pub to_shard : c.to.shard ≡ shard
+  to_shard = version_in_shard shard (c.n + 1) bytes c.to c.step c.written
+
+  pub fits_to : (k : PartKey) → Fits shard c.from k → Fits shard c.to k
+  fits_to k f =
+      let f2 = subst (λ (q : ShardId). KeyFits q c.from.next_member c.from.members k) (sym from_shard) f in
+      subst (λ (q : ShardId). KeyFits q c.to.next_member c.to.members k) to_shard (fits_on c.from c.to c.step k c.applies f2)
+
+  pub named_to : (k : PartKey) → Names c.to k → Fits shard c.to k
+  named_to k h = subst (λ (q : ShardId). KeyFits q c.to.next_member c.to.members k) to_shard (names_fit c.to k c.applies.rules h)
+
+  pub taken_to : (k : PartKey) → Takes c.step k → Fits shard c.to k
+  taken_to k h = fits_to k (subst (λ (q : ShardId). KeyFits q c.from.next_member c.from.members k) from_shard (names_fit c.from k from_state (taken_named c.from c.to c.step k c.applies h)))
+
+  -- a key that fits isn't added
+  pub fresh_to : (k : PartKey) → Adds c.step k → Fits shard c.from k → ⊥
+  fresh_to k a f = added_fresh c.from c.to c.step k c.applies a (subst (λ (q : ShardId). KeyFits q c.from.next_member c.from.members k) (sym from_shard) f)
+
+  -- the keys go on being kept
+  pub keys_commit : KeysIn shard (committed log bytes) c.to
+  keys_commit = record {
+    named = λ n s k h named. elim (after_commit shard log bytes c n s h.0 h.1) [
+      | inl g ↦ fits_to k (kept.named n s k (h.0, g) named)
+      | inr g ↦ named_to k (subst (λ (t : ShardState). Names t k) g.1 named)
+    ];
+    taken = λ n k t. elim (after_commit shard log bytes c n t.0 t.1 t.2) [
+      | inl g ↦ fits_to k (kept.taken n k (t.0, t.1, g, t.3))
+      | inr g ↦ taken_to k (subst (λ (y : Transition). Takes y k) g.2 t.3)
+    ];
+    gone = λ m n s k t le h named. elim (after_commit shard log bytes c m t.0 t.1 t.2) [
+      | inl g ↦ elim (after_commit shard log bytes c n s h.0 h.1) [
+        | inl g2 ↦ kept.gone m n s k (t.0, t.1, g, t.3) le (h.0, g2) named
+        | inr g2 ↦
+            let (low, high) = version_below shard log m t.0 t.1 g in
+            let last : (c.n + 1) ≡ end_of log = c.last in
+            elim (named_after c.from c.to c.step k c.applies (subst (λ (t : ShardState). Names t k) g2.1 named)) [
+              | inl before ↦ kept.gone m c.n c.from k (t.0, t.1, g, t.3) (omega arith) c.from_is before
+              | inr added ↦ fresh_to k added (kept.taken m k (t.0, t.1, g, t.3))
+            ]
+      ]
+      | inr g ↦ elim (after_commit shard log bytes c n s h.0 h.1) [
+        | inl g2 ↦
+            let (low, high) = version_below shard log n s h.0 g2 in
+            let last : (c.n + 1) ≡ end_of log = c.last in
+            let e : m ≡ (c.n + 1) = g.0 in absurd (omega arith)
+        | inr g2 ↦ taken_unnamed c.from c.to c.step k from_state c.applies (subst (λ (y : Transition). Takes y k) g.2 t.3) (subst (λ (t : ShardState). Names t k) g2.1 named)
+      ]
+    ];
+  }
+
+-- what a transition adds is of the shard
+pub shard_of_added : (shard : ShardId) (log : Log) (bytes : List ℕ) (c : Commit shard log bytes) (k : PartKey) → Adds c.step k → k.shard ≡ shard
+shard_of_added shard log bytes c k a =
+    let (member, token, of, spends, acts) = added_of c.from c.to c.step k c.applies a in
+    of.shard_is ∙ (let (b, there, reads) = bytes_of shard log c.n c.from c.from_is.0 c.from_is.1 in version_in_shard shard c.n b c.from c.from_is.0 reads)
+
+-- the log of a shard's first version has that one alone
+pub only_first : (shard : ShardId) (bytes : List ℕ) → version_in shard 0 bytes ≡ Some (init shard, Init) → (n : ℕ) (s : ShardState) (x : Transition) → VersionIs shard (committed no_log bytes) n s x → (init shard ≡ s) × (Init ≡ x)
+only_first shard bytes d n s x h = elim (either_version shard no_log bytes n s x h) [
+  | inl g ↦ cc
+  | inr g ↦
+      let g2 : version_in shard 0 bytes ≡ Some (s, x) = subst (λ (j : ℕ). version_in shard j bytes ≡ Some (s, x)) g.0 g.1 in
+      let e : (init shard, Init) ≡ (s, x) = cc in
+      (ap (λ (p : ShardState × Transition). p.0) e, ap (λ (p : ShardState × Transition). p.1) e)
+]
+
+-- Init names and takes no key
+pub keys_first : (shard : ShardId) (bytes : List ℕ) → version_in shard 0 bytes ≡ Some (init shard, Init) → KeysIn shard (committed no_log bytes) (init shard)
+keys_first shard bytes d = record {
+  named = λ n s k h named. absurd (subst (λ (t : ShardState). Names t k) (sym (only_first shard bytes d n s h.0 h.1).0) named);
+  taken = λ n k t. absurd (subst (λ (y : Transition). Takes y k) (sym (only_first shard bytes d n t.0 t.1 t.2).1) t.3);
+  gone = λ m n s k t le h named. absurd (subst (λ (y : Transition). Takes y k) (sym (only_first shard bytes d m t.0 t.1 t.2).1) t.3);
+}

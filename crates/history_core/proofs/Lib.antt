@@ -1,0 +1,11 @@
+pub mod Prefixes
+pub mod Logs
+pub mod Entries
+pub mod Versions
+pub mod Chains
+pub mod KeyChains
+pub mod Owners
+pub mod Standing
+pub mod Turns
+pub mod Blobs
+pub mod Presence

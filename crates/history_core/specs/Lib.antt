@@ -1,0 +1,5 @@
+pub mod Readings
+pub mod Histories
+pub mod Discipline
+pub mod Stands
+pub mod Laws

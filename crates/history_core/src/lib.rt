@@ -1,0 +1,4 @@
+//! Histories of calls: what a client may do, and what a store stands for.
+#![tactic(auto)]
+
+pub mod laws;
