@@ -9,3 +9,12 @@ pub mod Standing
 pub mod Turns
 pub mod Blobs
 pub mod Presence
+pub mod ReadingFacts
+pub mod Contents
+pub mod StateSums
+pub mod PartContents
+pub mod Content
+pub mod Bases
+pub mod StandsAfter
+pub mod Stays
+pub mod LawfulLaws

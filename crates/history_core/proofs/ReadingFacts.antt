@@ -1,0 +1,54 @@
+-- What the bytes of a part tell of its rows.
+use Rattle.std.proofs.Common.{◌≡◌, ◌&&◌, ℕ, zero, suc, ◌<◌, Bool, true, false, List, [], ◌∷◌, Some, None, Result, Ok, Err, refl, ap, ◌∙◌, arith, inl, inr}
+use Rattle.std.specs.Prelude.{nat_lt}
+use Rattle.std.specs.Result.{result_ok}
+use Rattle.std.proofs.lemmas.Bool.{ltb-true, le-leb}
+use Rattle.state_core.proofs.ListLemmas.{bool_cases}
+use Rattle.update_core.specs.declared.updates.Update.{Update}
+use Rattle.part_codec.specs.declared.part_faults.PartFault.{PartFault}
+use Rattle.part_codec.specs.Parts.{NonZero, Part, Rising}
+use Rattle.part_codec.specs.Reading.{all_of}
+use Rattle.part_codec.proofs.Fields.{IsBytes}
+use Rattle.part_codec.proofs.Parts.{is_found}
+use Rattle.history_core.specs.Readings.{rows_in, are_bytes}
+
+both : (a b : Bool) → a && b ≡ true → (a ≡ true) × (b ≡ true)
+both true true h = (refl, refl)
+both true false h = cc
+both false b h = cc
+
+bytes_of_test : (bytes : List ℕ) → are_bytes bytes ≡ true → IsBytes bytes
+bytes_of_test [] h i = omega arith
+bytes_of_test (b ∷ bs) h zero = ltb-true b 256 (both (nat_lt b 256) (are_bytes bs) h).0
+bytes_of_test (b ∷ bs) h (suc i) = bytes_of_test bs (both (nat_lt b 256) (are_bytes bs) h).1 i
+
+test_of_bytes : (bytes : List ℕ) → IsBytes bytes → are_bytes bytes ≡ true
+test_of_bytes [] h = refl
+test_of_bytes (b ∷ bs) h =
+    let first : b < 256 = h 0 in
+    ap (λ (t : Bool). t && are_bytes bs) (le-leb (suc b) 256 first) ∙ test_of_bytes bs (λ i. h (suc i))
+
+ok_from : (r : Result (List Update) PartFault) (rows : List Update) → result_ok r ≡ Some rows → r ≡ Ok rows
+ok_from (Ok found) rows h = let same : found ≡ rows = cc in ap (λ (x : List Update). Ok x) same
+ok_from (Err e) rows h = absurd (cc)
+
+-- what is read is a part
+pub rows_in_part : (b : List ℕ) (rows : List Update) → rows_in b ≡ Some rows → Part rows b
+unfolding rows_in
+rows_in_part b rows h = elim (bool_cases (are_bytes b)) [
+  | inl e ↦
+      let h2 : result_ok (all_of b) ≡ Some rows = rw e at h in
+      is_found b (Ok rows) (bytes_of_test b e) (ok_from (all_of b) rows h2)
+  | inr e ↦ let h2 : None ≡ Some rows = rw e at h in absurd (cc)
+]
+
+pub rows_in_nonzero : (b : List ℕ) (rows : List Update) → rows_in b ≡ Some rows → NonZero rows
+rows_in_nonzero b rows h = (rows_in_part b rows h).0.nonzero
+
+pub rows_in_rising : (b : List ℕ) (rows : List Update) → rows_in b ≡ Some rows → Rising rows
+rows_in_rising b rows h = (rows_in_part b rows h).0.rising
+
+-- of bytes, reading tells the rows
+pub rows_in_bytes : (b : List ℕ) → IsBytes b → rows_in b ≡ result_ok (all_of b)
+unfolding rows_in
+rows_in_bytes b h = rw (test_of_bytes b h) refl

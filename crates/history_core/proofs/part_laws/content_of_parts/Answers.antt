@@ -1,0 +1,5 @@
+use Rattle.history_core.proofs.PartContents as laws
+use Rattle.history_core.proofs.part_laws.content_of_parts.Goals as goal
+
+pub returns : goal.returns
+returns c = laws.content_of_parts
