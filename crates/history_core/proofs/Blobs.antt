@@ -34,10 +34,9 @@ use Rattle.history_core.specs.Discipline.{JoinsAs, IsJoin, Owns, OwnsSome, Spend
 use Rattle.history_core.specs.Stands.{read_version, VersionIs, StateIn, end_of, IsLast, TakenIn, IsChain, KeysKept, KeysIn, StateAt, IsPresent}
 use Rattle.state_core.proofs.Keys.{added_of, named_after}
 use Rattle.history_core.proofs.Entries.{key_same, BlobStep, same, set, gone, blob_step, among_mine, mine_older, mine_newest, lawful_newest, lawful_older}
-use Rattle.history_core.proofs.Chains.{after_commit}
-use Rattle.history_core.proofs.KeyChains.{only_first}
+use Rattle.history_core.proofs.StateFacts.{state_after, state_first}
 use Rattle.history_core.proofs.Standing.{Standing, standing, Owners, owners}
-use Rattle.history_core.proofs.Turns.{Turn, still, shorter, begins, grows, turn, version_ever_on, delete_shown}
+use Rattle.history_core.proofs.Turns.{Turn, still, shorter, begins, grows, turn, taken_ever_on, delete_shown}
 
 -- where a history begins: what its versions name and its blobs hold is of members below a bound
 pub record Begins (start : Stored) (shard : ShardId) (start_member : ℕ) : Type 0 where
@@ -156,12 +155,12 @@ module _ (start : Stored) (shard : ShardId) (start_member : ℕ) (begin : Begins
       go (shorter below c q r) = adders_up e es k (older n s k (subst (λ (g : Log). StateIn shard g n s) q h) named)
       go (begins expected bytes c f q r) =
           let h2 = subst (λ (g : Log). StateIn shard g n s) (q ∙ ap (λ (g : Log). committed g bytes) f.empty) h in
-          absurd (subst (λ (t : ShardState). Names t k) (sym (only_first shard bytes f.first n s h2.0 h2.1).0) named)
+          absurd (subst (λ (t : ShardState). Names t k) (sym (state_first shard bytes f.first n s h2)) named)
       go (grows expected bytes c t k2 b q r) =
           let h2 = subst (λ (g : Log). StateIn shard g n s) q h in
           let m = b.commit in
-          elim (after_commit shard (ever start shard es) bytes m n s h2.0 h2.1) [
-            | inl g ↦ adders_up e es k (older n s k (h2.0, g) named)
+          elim (state_after shard (ever start shard es) bytes m n s h2) [
+            | inl g ↦ adders_up e es k (older n s k g named)
             | inr g ↦ elim (named_after m.from m.to m.step k m.applies (subst (λ (t2 : ShardState). Names t2 k) g.1 named)) [
               | inl before ↦ adders_up e es k (older m.n m.from k m.from_is before)
               | inr added ↦
@@ -254,7 +253,7 @@ module _ (start : Stored) (shard : ShardId) (start_member : ℕ) (begin : Begins
       Among (IsSet k b) (mine_back start es c) × Owned es c k × (((replay_back start es).blobs k ≡ Some b) ⊎ ((n : ℕ) × TakenIn shard (ever start shard es) n k))
 
   pub taken_on : (e : Entry) (es : List Entry) (n : ℕ) (k : PartKey) → TakenIn shard (ever start shard es) n k → TakenIn shard (ever start shard (e ∷ es)) n k
-  taken_on e es n k t = (t.0, t.1, version_ever_on start shard e es n t.0 t.1 t.2, t.3)
+  taken_on e es n k t = taken_ever_on start shard e es n k t
 
   stores_step : (e : Entry) (es : List Entry) → LawfulBack start (e ∷ es) → Stores es → Stores (e ∷ es)
   stores_step e es l older c k b here st = elim (among_mine (λ (w : Answered). IsStored k b w.entry.call w.reply) start e es c st) [

@@ -223,6 +223,33 @@ among-filter P p (x ∷ xs) h =
 pub scan_there : (from : ℕ) (log : Log) (n : ℕ) (b : List ℕ) → Among (λ v. (v.number ≡ n) × (v.bytes ≡ b)) (filter (λ v. nat_le from v.number) (live log)) → version_at log n ≡ Some b
 scan_there from log n b h = numbered-there log.first log.versions n b (among-filter (λ v. (v.number ≡ n) × (v.bytes ≡ b)) (λ v. nat_le from v.number) (live log) h)
 
+numbered-shows : (first : ℕ) (vs : List (List ℕ)) (n : ℕ) (b : List ℕ) → bytes_from first vs n ≡ Some b → Among (λ v. (v.number ≡ n) × (v.bytes ≡ b)) (numbered first vs)
+numbered-shows first [] n b h = cc
+numbered-shows first (w ∷ vs) n b h =
+    elim (bool_cases (eqb n first)) [
+      | inl e ↦ let h2 : Some w ≡ Some b = rw e at h in let eq : n ≡ first = eqb-true n first e in let eq2 : w ≡ b = cc in inl (sym eq, eq2)
+      | inr e ↦ inr (numbered-shows (first + 1) vs n b (rw e at h))
+    ]
+
+filter-among : {A : Type 0} (P : A → Type 0) (p : A → Bool) (xs : List A) → ((x : A) → P x → p x ≡ true) → Among P xs → Among P (filter p xs)
+filter-among P p [] f h = h
+filter-among P p (x ∷ xs) f (inl h) = subst (λ (t : Bool). Among P (cond t (x ∷ filter p xs) (filter p xs))) (sym (f x h)) (inl h)
+filter-among P p (x ∷ xs) f (inr h) =
+    let rest = filter-among P p xs f h in
+    elim (bool_cases (p x)) [
+      | inl e ↦ subst (λ (t : Bool). Among P (cond t (x ∷ filter p xs) (filter p xs))) (sym e) (inr rest)
+      | inr e ↦ subst (λ (t : Bool). Among P (cond t (x ∷ filter p xs) (filter p xs))) (sym e) rest
+    ]
+
+at_least : (a b : ℕ) → a ≤ b → nat_le a b ≡ true
+at_least a b h = grind (arith, nat_tests)
+
+-- a Scan shows each version from its number on
+pub scan_shows : (from : ℕ) (log : Log) (n : ℕ) (b : List ℕ) → from ≤ n → version_at log n ≡ Some b → Among (λ v. (v.number ≡ n) × (v.bytes ≡ b)) (filter (λ v. nat_le from v.number) (live log))
+scan_shows from log n b le h =
+    filter-among (λ v. (v.number ≡ n) × (v.bytes ≡ b)) (λ v. nat_le from v.number) (live log) (λ v p. let e : v.number ≡ n = p.0 in at_least from v.number (omega arith))
+    (numbered-shows log.first log.versions n b h)
+
 last-there : (first : ℕ) (vs : List (List ℕ)) (v : Version) → last_of (numbered first vs) ≡ Some v → bytes_from first vs v.number ≡ Some v.bytes
 last-there first [] v h = cc
 last-there first (w ∷ []) v h =

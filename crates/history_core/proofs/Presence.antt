@@ -35,8 +35,7 @@ use Rattle.history_core.specs.Stands.{read_version, VersionIs, StateIn, end_of, 
 use Rattle.state_core.proofs.Keys.{named_after}
 use Rattle.history_core.proofs.Entries.{BlobStep, same, set, gone, blob_step, cas_keeps, lawful_newest, lawful_older}
 use Rattle.history_core.proofs.Versions.{logs_agree, live}
-use Rattle.history_core.proofs.Chains.{Commit, after_commit, version_below, one_state, bytes_of}
-use Rattle.history_core.proofs.KeyChains.{only_first}
+use Rattle.history_core.proofs.StateFacts.{state_below, state_number, state_after, state_first, state_none, last_one, last_commit}
 use Rattle.history_core.proofs.Standing.{Kept, from_last}
 use Rattle.history_core.proofs.Turns.{Turn, still, shorter, begins, grows, turn, delete_shown}
 use Rattle.history_core.proofs.Blobs.{Begins, stands_at, set_unnamed, allowed_set, stores}
@@ -66,17 +65,6 @@ added_stored own (Renew member now) k h a = absurd a
 added_stored own (Advance member to) k h a = absurd a
 added_stored own (Expire now) k h a = absurd a
 
--- the newest version after a commit is the one committed
-pub last_commit : (shard : ShardId) (log : Log) (bytes : List ℕ) (c : Commit shard log bytes) (number : ℕ) (last : ShardState) → IsLast (committed log bytes) number → StateIn shard (committed log bytes) number last → (number ≡ (c.n + 1)) × (last ≡ c.to)
-last_commit shard log bytes c number last l st =
-    elim (after_commit shard log bytes c number last st.0 st.1) [
-      | inl g ↦
-          let (low, high) = version_below shard log number last st.0 g in
-          let l2 : (number + 1) ≡ end_of log + 1 = l ∙ end_of-committed log bytes in
-          absurd (omega arith)
-      | inr g ↦ (g.0, g.1)
-    ]
-
 pub present_by : (s t : Stored) (k : PartKey) → t.blobs k ≡ s.blobs k → IsPresent s k → IsPresent t k
 present_by s t k e h = (h.0, h.1, e ∙ h.2, h.3)
 
@@ -92,15 +80,9 @@ module _ (start : Stored) (shard : ShardId) (start_member : ℕ) (begin : Begins
   -- a chain has a newest version, so it isn't the empty one
   pub kept_at : (es : List Entry) → LawfulBack start es → (n : ℕ) (s : ShardState) → StateIn shard (ever start shard es) n s → Kept shard (ever start shard es) start_member
   kept_at es l n s h = elim (stands_at start shard start_member begin es l) [
-    | inl p ↦ absurd (let g = subst (λ (q : Log). VersionIs shard q n s h.0) p.0 h.1 in cc)
+    | inl p ↦ absurd (state_none shard (ever start shard es) n s p.0 h)
     | inr k ↦ k
   ]
-
-  pub last_is : (es : List Entry) (k : Kept shard (ever start shard es) start_member) (number : ℕ) (last : ShardState) → IsLast (ever start shard es) number → StateIn shard (ever start shard es) number last → (number ≡ k.number) × (k.last ≡ last)
-  last_is es k number last l st =
-      let e : number ≡ k.number = (let a : (number + 1) ≡ end_of (ever start shard es) = l in let b : (k.number + 1) ≡ end_of (ever start shard es) = k.newest in omega arith) in
-      let st2 = subst (λ (j : ℕ). StateIn shard (ever start shard es) j last) e st in
-      (e, (one_state shard (ever start shard es) k.number k.last last k.state.0 st2.0 k.state.1 st2.1).0)
 
   -- an entry leaves the bytes of the keys that versions from the floor on name
   pub named_keeps : (e : Entry) (es : List Entry) → LawfulBack start (e ∷ es) → (number : ℕ) (last : ShardState) → IsLast (ever start shard es) number → StateIn shard (ever start shard es) number last →
@@ -121,7 +103,7 @@ module _ (start : Stored) (shard : ShardId) (start_member : ℕ) (begin : Begins
       go (set bytes c q) = absurd (set_unnamed start shard start_member begin es before e.client k bytes fits.of_shard (allowed_set start shard start_member begin e es k bytes l c) n s h named)
       go (gone c q) =
           let w = delete_shown start shard begin.first es e.client k fits.of_shard (subst (Allows (mine_back start es e.client)) c (lawful_newest start e es l)) in
-          let (low, high) = version_below shard (ever start shard es) w.m w.s w.state.0 w.state.1 in
+          let (low, high) = state_below shard (ever start shard es) w.m w.s w.state in
           let at_end : (number + 1) ≡ end_of (ever start shard es) = newest in
           let up : floor w.s ≤ floor last = floors_rise shard (ever start shard es) kept.chain w.m number (omega arith) w.s last w.state st in
           let le2 : w.n ≤ floor w.s = w.low in
@@ -153,7 +135,7 @@ module _ (start : Stored) (shard : ShardId) (start_member : ℕ) (begin : Begins
           let old = older number last newest2 st2 in
           let w = truncate_covered start shard begin.first es e.client below (subst (Allows (mine_back start es e.client)) c (lawful_newest start e es l)) in
           let kept = kept_at es before number last st2 in
-          let (low, high) = version_below shard (ever start shard es) w.m w.s w.state.0 w.state.1 in
+          let (low, high) = state_below shard (ever start shard es) w.m w.s w.state in
           let at_end : (number + 1) ≡ end_of (ever start shard es) = newest2 in
           let up : floor w.s ≤ floor last = floors_rise shard (ever start shard es) kept.chain w.m number (omega arith) w.s last w.state st2 in
           let le2 : below ≤ floor w.s = w.low in
@@ -176,7 +158,7 @@ module _ (start : Stored) (shard : ShardId) (start_member : ℕ) (begin : Begins
             );
             present = λ n s k le h named.
                 let h2 = subst (λ (g : Log). StateIn shard g n s) q2 h in
-                absurd (subst (λ (t : ShardState). Names t k) (sym (only_first shard bytes f.first n s h2.0 h2.1).0) named);
+                absurd (subst (λ (t : ShardState). Names t k) (sym (state_first shard bytes f.first n s h2)) named);
           }
       go (grows expected bytes c t k2 b q r) =
           let m = b.commit in
@@ -191,8 +173,7 @@ module _ (start : Stored) (shard : ShardId) (start_member : ℕ) (begin : Begins
           let up2 : floor last ≡ floor m.to = ap floor last_is2 in
           let agree = logs_agree start shard begin.first es in
           let at_end : end_of (live start shard es) ≡ (m.n + 1) = agree.next ∙ sym m.last in
-          let (bytes2, there2, reads2) = bytes_of shard (ever start shard es) m.n m.from m.from_is.0 m.from_is.1 in
-          let number_from : m.from.number ≡ m.n = version_in_number shard m.n bytes2 m.from m.from_is.0 reads2 in
+          let number_from : m.from.number ≡ m.n = state_number shard (ever start shard es) m.n m.from m.from_is in
           let top : floor m.from ≤ m.from.number = floor_top m.from.number m.from.members in
           let keeps : (k : PartKey) → (replay_back start (e ∷ es)).blobs k ≡ (replay_back start es).blobs k = λ k. cas_keeps e.call shard expected bytes c (replay_back start es) e.outcome k in
           record {
@@ -208,8 +189,8 @@ module _ (start : Stored) (shard : ShardId) (start_member : ℕ) (begin : Begins
             present = λ n s k le h named.
                 let h2 = subst (λ (g : Log). StateIn shard g n s) q h in
                 present_by (replay_back start es) (replay_back start (e ∷ es)) k (keeps k)
-                (elim (after_commit shard (ever start shard es) bytes m n s h2.0 h2.1) [
-                  | inl g ↦ old.present n s k (omega arith) (h2.0, g) named
+                (elim (state_after shard (ever start shard es) bytes m n s h2) [
+                  | inl g ↦ old.present n s k (omega arith) g named
                   | inr g ↦
                       let named2 = subst (λ (t2 : ShardState). Names t2 k) g.1 named in
                       elim (named_after m.from m.to m.step k m.applies named2) [

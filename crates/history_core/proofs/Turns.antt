@@ -64,6 +64,14 @@ version_ever_on start shard e es n s x h =
     let (b, there, reads) = bytes_of shard (ever start shard es) n s x h in
     version_is shard (ever start shard (e ∷ es)) n b s x (ever_on start shard e es n b there) reads
 
+-- what a version takes it goes on to take
+pub taken_ever_on : (start : Stored) (shard : ShardId) (e : Entry) (es : List Entry) (n : ℕ) (k : PartKey) → TakenIn shard (ever start shard es) n k → TakenIn shard (ever start shard (e ∷ es)) n k
+taken_ever_on start shard e es n k t = (t.0, t.1, version_ever_on start shard e es n t.0 t.1 t.2, t.3)
+
+-- a state goes on to be that of its version
+pub state_ever_on : (start : Stored) (shard : ShardId) (e : Entry) (es : List Entry) (n : ℕ) (s : ShardState) → StateIn shard (ever start shard es) n s → StateIn shard (ever start shard (e ∷ es)) n s
+state_ever_on start shard e es n s h = (h.0, version_ever_on start shard e es n s h.0 h.1)
+
 newest_among : (shard : ShardId) (vs : List Version) (s : ShardState) → NewestIs shard vs s →
     (n : ℕ) × (b : List ℕ) × (x : Transition) × Among (λ v. (v.number ≡ n) × (v.bytes ≡ b)) vs × (version_in shard n b ≡ Some (s, x))
 newest_among shard [] s h = absurd h

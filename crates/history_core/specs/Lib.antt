@@ -5,3 +5,4 @@ pub mod Stands
 pub mod Questions
 pub mod Walks
 pub mod Laws
+pub mod Spending

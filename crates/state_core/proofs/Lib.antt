@@ -7,3 +7,4 @@ pub mod Determined
 pub mod Refused
 pub mod Rising
 pub mod VersionFacts
+pub mod Tokens

@@ -7,6 +7,8 @@ use Rattle.history_core.proofs.Standing.{owners}
 use Rattle.history_core.proofs.Turns.{truncate_covered}
 use Rattle.history_core.proofs.Blobs.{origins}
 use Rattle.history_core.proofs.Presence.{presence}
+use Rattle.history_core.proofs.Shown.{newest_shown}
+use Rattle.history_core.proofs.Once.{counted}
 
 pub returns : goal.returns
 returns c a b e = sym e
