@@ -6,3 +6,7 @@ pub mod Questions
 pub mod Walks
 pub mod Laws
 pub mod Spending
+pub mod Placing
+pub mod Legal
+pub mod Costs
+pub mod AnswerLaws

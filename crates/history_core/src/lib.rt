@@ -1,6 +1,13 @@
 //! Histories of calls: what a client may do, and what a store stands for.
 #![tactic(auto)]
 
+mod asked;
 pub mod laws;
 pub mod part_laws;
+mod read_answers;
 mod walks;
+mod write_answers;
+
+pub use asked::Asked;
+pub use read_answers::ReadAnswer;
+pub use write_answers::WriteAnswer;
