@@ -1,15 +1,9 @@
 -- Where the bytes under keys come from, and how long they stay.
-use Rattle.std.proofs.Common.{◌≡◌, ◌&&◌, ℕ, zero, suc, ◌+◌, ◌-◌, ◌<◌, ◌≤◌, Bool, true, false, cond, List, [], ◌∷◌, ◌++◌, ◌⊎◌, inl, inr, refl, arith, subst, sym, ap, ◌∙◌, eqb, Some, None, Option, length}
-use Rattle.std.proofs.lemmas.Bool.{eqb-true, eqb-false, eq-eqb, ne_eqb}
-use Rattle.std.specs.List.{AllByRecursion}
-use Rattle.std.specs.Prelude.{not, reverse}
-use Rattle.std.specs.Ordering.{is_eq}
+use Rattle.std.proofs.Common.{◌≡◌, ℕ, ◌+◌, ◌<◌, ◌≤◌, Bool, cond, List, [], ◌∷◌, ◌⊎◌, inl, inr, refl, arith, subst, sym, ap, ◌∙◌, Some, None, Option}
 use Rattle.state_core.specs.Lists.{Among}
-use Rattle.state_core.proofs.ListLemmas.{bool_cases, each_among}
-use Rattle.update_core.specs.declared.updates.Update.{Update}
+use Rattle.state_core.proofs.ListLemmas.{each_among}
 use Rattle.store_core.specs.declared.shards.ShardId.{ShardId}
 use Rattle.store_core.specs.declared.part_keys.PartKey.{PartKey}
-use Rattle.store_core.specs.declared.versions.Version.{Version}
 use Rattle.store_core.specs.declared.calls.Call.{Call}
 use Rattle.store_core.specs.declared.calls.Call.TheVariants as calls
 use Rattle.store_core.specs.declared.replies.Reply.{Reply}
@@ -17,21 +11,17 @@ use Rattle.store_core.specs.declared.replies.Reply.TheVariants as replies
 use Rattle.store_core.specs.declared.outcomes.Outcome.{Outcome}
 use Rattle.store_core.specs.declared.outcomes.Outcome.TheVariants.{Took, FailedTook, FailedLost}
 use Rattle.store_core.specs.declared.entries.Entry.{Entry}
-use Rattle.store_core.specs.Stores.{Log, Stored, no_log, shard_cmp, key_cmp, set_at, same_number, last_number, is_last_number, next_number, committed, truncated, cas_log, cas_reply, reply_of, after_call}
-use Rattle.store_core.specs.Histories.{after_outcome, reply_by, reply}
-use Rattle.store_core.specs.Ports.{Answered, answered}
+use Rattle.store_core.specs.Stores.{Log, Stored, committed}
+use Rattle.store_core.specs.Histories.{after_outcome, reply_by}
+use Rattle.store_core.specs.Ports.{Answered}
 use Rattle.store_core.specs.Newest.{replay_back, mine_back}
-use Rattle.state_core.specs.declared.kinds.Kind.{Kind}
 use Rattle.state_core.specs.declared.transitions.Transition.{Transition}
-use Rattle.state_core.specs.declared.transitions.Transition.TheVariants.{Init, Join, Leave, Renew, Advance, Expire, Append, Merge}
-use Rattle.state_core.specs.States.{ShardState, IsState, KeyFits, Names, floor}
-use Rattle.state_core.specs.Steps.{Applies, Takes, Adds, Spends, acts_for, init}
+use Rattle.state_core.specs.States.{ShardState, Names}
+use Rattle.state_core.specs.Steps.{Spends}
 use Rattle.state_core.specs.Versions.{version_in}
-use Rattle.state_core.proofs.VersionFacts.{version_in_state, version_in_shard, version_in_number}
-use Rattle.history_core.specs.Readings.{rows_in}
-use Rattle.history_core.specs.Histories.{same_shard, version_at, commits, took_effect, Told, Shows, grown, ever}
-use Rattle.history_core.specs.Discipline.{JoinsAs, IsJoin, Owns, OwnsSome, SpendsIn, IsCasUnder, SetsSame, IsStored, IsGot, StoredAs, GotAs, SetAllowed, Hold, Holds, AppendHolds, MergeHolds, CasAllowed, TakesIn, TakenUpTo, NewestIs, IsScanTaking, AllDeleted, IsScanCovering, Allows, OwnLawful, LawfulBack}
-use Rattle.history_core.specs.Stands.{read_version, VersionIs, StateIn, end_of, IsLast, TakenIn, IsChain, KeysKept, KeysIn, StateAt, IsPresent}
+use Rattle.history_core.specs.Histories.{ever}
+use Rattle.history_core.specs.Discipline.{IsJoin, Owns, OwnsSome, IsCasUnder, SetsSame, IsStored, IsGot, StoredAs, GotAs, SetAllowed, Allows, LawfulBack}
+use Rattle.history_core.specs.Stands.{StateIn, TakenIn}
 use Rattle.state_core.proofs.Keys.{added_of, named_after}
 use Rattle.history_core.proofs.Entries.{key_same, BlobStep, same, set, gone, blob_step, among_mine, mine_older, mine_newest, lawful_newest, lawful_older}
 use Rattle.history_core.proofs.StateFacts.{state_after, state_first}
@@ -54,7 +44,7 @@ got-of k q b None h = absurd h
 got-of k q b (Some v) h = (h.0, ap Some h.1)
 
 -- a Get that is answered with bytes found them there, and leaves them
-got_now : (k : PartKey) (b : List ℕ) (store : Stored) (call : Call) (outcome : Outcome) → IsGot k b call (reply_by store call outcome) → (store.blobs k ≡ Some b) × ((after_outcome store call outcome).blobs k ≡ store.blobs k)
+pub got_now : (k : PartKey) (b : List ℕ) (store : Stored) (call : Call) (outcome : Outcome) → IsGot k b call (reply_by store call outcome) → (store.blobs k ≡ Some b) × ((after_outcome store call outcome).blobs k ≡ store.blobs k)
 got_now k b store (calls.Get q) Took h = let (e, there) = got-of k q b (store.blobs q) h in (subst (λ (a : PartKey). store.blobs a ≡ Some b) e there, refl)
 got_now k b store (calls.Get q) FailedTook h = absurd h
 got_now k b store (calls.Get q) FailedLost h = absurd h

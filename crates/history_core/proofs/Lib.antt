@@ -16,3 +16,10 @@ pub mod ReadingFacts
 pub mod Contents
 pub mod StateSums
 pub mod PartContents
+pub mod Content
+pub mod Bases
+pub mod StandsAfter
+pub mod Stays
+pub mod LawfulLaws
+pub mod AnswerLaws
+pub mod GotLaws

@@ -1,12 +1,12 @@
 -- The versions of a log, by their numbers.
-use Rattle.std.proofs.Common.{◌≡◌, ◌&&◌, ℕ, zero, suc, ◌+◌, ◌-◌, ◌<◌, ◌≤◌, min, Bool, true, false, cond, List, [], ◌∷◌, ◌++◌, ◌⊎◌, inl, inr, refl, arith, subst, sym, ap, ◌∙◌, eqb, leb, ltb, Some, None, Option, length, drop, length-append}
-use Rattle.std.specs.Prelude.{nat_le, nat_lt, filter, not}
-use Rattle.std.proofs.lemmas.Bool.{eqb-true, eqb-false, eq-eqb, ne_eqb, ltb-true}
-use Rattle.std.proofs.lemmas.Bool.Decides.{leb_tells, nat_tests}
+use Rattle.std.proofs.Common.{◌≡◌, ◌&&◌, ℕ, zero, suc, ◌+◌, ◌-◌, ◌<◌, ◌≤◌, min, Bool, true, false, cond, List, [], ◌∷◌, ◌++◌, ◌⊎◌, inl, inr, refl, arith, subst, sym, ap, ◌∙◌, eqb, Some, None, Option, length, drop, length-append}
+use Rattle.std.specs.Prelude.{nat_le, nat_lt, filter}
+use Rattle.std.proofs.lemmas.Bool.{eqb-true, eqb-false, eq-eqb, ne_eqb}
+use Rattle.std.proofs.lemmas.Bool.Decides.{nat_tests}
 use Rattle.state_core.specs.Lists.{Among}
 use Rattle.state_core.proofs.ListLemmas.{bool_cases}
 use Rattle.store_core.specs.declared.versions.Version.{Version}
-use Rattle.store_core.specs.Stores.{Log, last_number, same_number, is_last_number, next_number, last_of, numbered, live, committed, truncated, gone}
+use Rattle.store_core.specs.Stores.{Log, last_number, same_number, next_number, last_of, numbered, live, committed, truncated, gone}
 use Rattle.history_core.specs.Histories.{bytes_from, version_at, commits}
 use Rattle.history_core.specs.Stands.{end_of}
 

@@ -1,37 +1,19 @@
 -- The versions that are live are among those that ever were, and replies show no others.
-use Rattle.std.proofs.Common.{◌≡◌, ◌&&◌, ℕ, zero, suc, ◌+◌, ◌-◌, ◌<◌, ◌≤◌, Bool, true, false, cond, List, [], ◌∷◌, ◌++◌, ◌⊎◌, inl, inr, refl, arith, subst, sym, ap, ◌∙◌, eqb, Some, None, Option, length}
-use Rattle.std.proofs.lemmas.Bool.{eqb-true, eqb-false, eq-eqb, ne_eqb}
-use Rattle.std.specs.List.{AllByRecursion}
-use Rattle.std.specs.Prelude.{not, reverse}
-use Rattle.std.specs.Ordering.{is_eq}
-use Rattle.state_core.specs.Lists.{Among}
-use Rattle.state_core.proofs.ListLemmas.{bool_cases, each_among}
-use Rattle.update_core.specs.declared.updates.Update.{Update}
+use Rattle.std.proofs.Common.{◌≡◌, ℕ, ◌+◌, true, List, [], ◌∷◌, ◌++◌, inl, inr, refl, arith, subst, sym, ap, ◌∙◌, Some, None, Option, length}
+use Rattle.state_core.proofs.ListLemmas.{bool_cases}
 use Rattle.store_core.specs.declared.shards.ShardId.{ShardId}
-use Rattle.store_core.specs.declared.part_keys.PartKey.{PartKey}
 use Rattle.store_core.specs.declared.versions.Version.{Version}
 use Rattle.store_core.specs.declared.calls.Call.{Call}
 use Rattle.store_core.specs.declared.calls.Call.TheVariants as calls
-use Rattle.store_core.specs.declared.replies.Reply.{Reply}
 use Rattle.store_core.specs.declared.replies.Reply.TheVariants as replies
 use Rattle.store_core.specs.declared.outcomes.Outcome.{Outcome}
 use Rattle.store_core.specs.declared.outcomes.Outcome.TheVariants.{Took, FailedTook, FailedLost}
 use Rattle.store_core.specs.declared.entries.Entry.{Entry}
-use Rattle.store_core.specs.Stores.{Log, Stored, no_log, shard_cmp, key_cmp, set_at, same_number, last_number, is_last_number, next_number, committed, truncated, cas_log, cas_reply, reply_of, after_call}
-use Rattle.store_core.specs.Histories.{after_outcome, reply_by, reply}
-use Rattle.store_core.specs.Ports.{Answered, answered}
+use Rattle.store_core.specs.Stores.{Log, Stored, same_number, last_number, is_last_number, next_number, committed, truncated, reply_of, after_call}
+use Rattle.store_core.specs.Histories.{after_outcome, reply_by}
 use Rattle.store_core.specs.Newest.{replay_back, mine_back}
-use Rattle.state_core.specs.declared.kinds.Kind.{Kind}
-use Rattle.state_core.specs.declared.transitions.Transition.{Transition}
-use Rattle.state_core.specs.declared.transitions.Transition.TheVariants.{Init, Join, Leave, Renew, Advance, Expire, Append, Merge}
-use Rattle.state_core.specs.States.{ShardState, IsState, KeyFits, Names, floor}
-use Rattle.state_core.specs.Steps.{Applies, Takes, Adds, Spends, acts_for, init}
-use Rattle.state_core.specs.Versions.{version_in}
-use Rattle.state_core.proofs.VersionFacts.{version_in_state, version_in_shard, version_in_number}
-use Rattle.history_core.specs.Readings.{rows_in}
-use Rattle.history_core.specs.Histories.{same_shard, version_at, commits, took_effect, Told, Shows, grown, ever}
-use Rattle.history_core.specs.Discipline.{JoinsAs, IsJoin, Owns, OwnsSome, SpendsIn, IsCasUnder, SetsSame, IsStored, IsGot, StoredAs, GotAs, SetAllowed, Hold, Holds, AppendHolds, MergeHolds, CasAllowed, TakesIn, TakenUpTo, NewestIs, IsScanTaking, AllDeleted, IsScanCovering, Allows, OwnLawful, LawfulBack}
-use Rattle.history_core.specs.Stands.{read_version, VersionIs, StateIn, end_of, IsLast, TakenIn, IsChain, KeysKept, KeysIn, StateAt, IsPresent}
+use Rattle.history_core.specs.Histories.{version_at, commits, Told, Shows, grown, ever}
+use Rattle.history_core.specs.Stands.{end_of}
 use Rattle.history_core.proofs.Entries.{LogStep, idle, cuts, adds, log_step, among_mine, cas_commits}
 use Rattle.history_core.proofs.Logs.{end_of-committed, last_number-committed, end_of-truncated, last_number-truncated, committed_either, committed_old, committed_new, truncated_old, last_there, scan_there, empty_last, last_none_empty, commits_next}
 

@@ -6,6 +6,7 @@ pub mod Questions
 pub mod Walks
 pub mod Laws
 pub mod Spending
+pub mod Answers
 pub mod Placing
 pub mod Legal
 pub mod Costs

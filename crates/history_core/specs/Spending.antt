@@ -1,5 +1,5 @@
 -- How often a member's token is spent in a history.
-use Rattle.std.specs.Prelude.{ℕ, ◌+◌, Bool, true, false, Option, Some, None, List, [], ◌∷◌, reverse, ◌==◌, if◌then◌else◌, ◌&&◌}
+use Rattle.std.specs.Prelude.{ℕ, ◌+◌, Bool, false, Option, Some, List, [], ◌∷◌, reverse, ◌==◌, if◌then◌else◌, ◌&&◌}
 use Rattle.store_core.specs.declared.shards.ShardId.{ShardId}
 use Rattle.store_core.specs.declared.calls.Call.{Call}
 use Rattle.store_core.specs.declared.calls.Call.TheVariants as calls
@@ -33,3 +33,13 @@ commits_under start shard member token (e ∷ es) = (if is_commit_under (replay_
 -- how many entries of a history do
 abbrev pub commits_under_of : History → ShardId → ℕ → ℕ → ℕ
 commits_under_of h shard member token = commits_under h.start shard member token (reverse h.trail)
+
+-- how many of one client's entries do, the newest of which comes first
+abbrev pub own_commits : Stored → ShardId → ℕ → ℕ → ℕ → List Entry → ℕ
+own_commits start shard client member token [] = 0
+own_commits start shard client member token (e ∷ es) =
+    (if (e.client == client) && is_commit_under (replay_back start es) shard member token e e.call then 1 else 0) + own_commits start shard client member token es
+
+-- how many of one client's entries in a history do
+abbrev pub own_commits_of : History → ShardId → ℕ → ℕ → ℕ → ℕ
+own_commits_of h shard client member token = own_commits h.start shard client member token (reverse h.trail)

@@ -1,11 +1,11 @@
 //! Histories of calls: what a client may do, and what a store stands for.
 #![tactic(auto)]
 
+pub mod answer_laws;
 mod asked;
 pub mod laws;
 pub mod part_laws;
 mod read_answers;
-mod walks;
 mod write_answers;
 
 pub use asked::Asked;
