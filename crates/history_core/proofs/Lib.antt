@@ -23,3 +23,4 @@ pub mod Stays
 pub mod LawfulLaws
 pub mod AnswerLaws
 pub mod GotLaws
+pub mod GotRows

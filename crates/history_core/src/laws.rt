@@ -1,4 +1,11 @@
 // Laws of histories, each the contract of a function that does nothing.
+ghost use Rattle.std.specs.Prelude.{◌≡◌, ◌++◌, false, List, Option, ℕ};
+ghost use Rattle.std.specs.Ordering.{is_gt};
+ghost use Rattle.update_core.specs.declared.updates.Update.{Update};
+ghost use Rattle.update_core.specs.Frontiers.{frontier_cmp};
+ghost use Rattle.update_core.specs.Updates.{OutOf, slice_of};
+ghost use Rattle.history_core.specs.AnswerLaws.{RowsGot, StepGot};
+ghost use Rattle.history_core.specs.Answers.{NewestShown};
 ghost use Rattle.history_core.specs.Laws.{LawfulStandsFor, LeasedPresent, LeasedUnchanged, LawfulPrefix, FloorNeverFalls};
 
 /// From a store that stands for a list, each lawful history leads to a store that stands for the accepted list.
@@ -20,4 +27,18 @@ pub fn lawful_prefix()
 /// The floor of a shard's last state never falls along a lawful history.
 pub fn floor_never_falls()
     ensures { FloorNeverFalls }
+{}
+
+/// What legal answers rest on: a Scan that reaches past what was shown shows the last version, and what is got later of a
+/// version's parts is what the plain collection answers at it.
+pub fn answers_legal()
+    ensures newest { NewestShown }
+    ensures rows { RowsGot }
+    ensures step { StepGot }
+{}
+
+/// A slice up to g and, when more has come past g, one from g on are one slice: so the steps of a listen are one slice.
+pub fn slices_join()
+    ensures { (us more : List Update) (f g h : Option ℕ) → is_gt (frontier_cmp f g) ≡ false → is_gt (frontier_cmp g h) ≡ false → OutOf g more
+        → slice_of us f g ++ slice_of (us ++ more) g h ≡ slice_of (us ++ more) f h }
 {}
