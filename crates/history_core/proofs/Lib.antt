@@ -24,3 +24,5 @@ pub mod LawfulLaws
 pub mod AnswerLaws
 pub mod GotLaws
 pub mod GotRows
+pub mod Committed
+pub mod Answering

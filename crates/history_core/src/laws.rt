@@ -4,7 +4,7 @@ ghost use Rattle.std.specs.Ordering.{is_gt};
 ghost use Rattle.update_core.specs.declared.updates.Update.{Update};
 ghost use Rattle.update_core.specs.Frontiers.{frontier_cmp};
 ghost use Rattle.update_core.specs.Updates.{OutOf, slice_of};
-ghost use Rattle.history_core.specs.AnswerLaws.{RowsGot, StepGot};
+ghost use Rattle.history_core.specs.AnswerLaws.{CommittedOnce, RowsGot, StepGot};
 ghost use Rattle.history_core.specs.Answers.{NewestShown};
 ghost use Rattle.history_core.specs.Laws.{LawfulStandsFor, LeasedPresent, LeasedUnchanged, LawfulPrefix, FloorNeverFalls};
 
@@ -29,10 +29,12 @@ pub fn floor_never_falls()
     ensures { FloorNeverFalls }
 {}
 
-/// What legal answers rest on: a Scan that reaches past what was shown shows the last version, and what is got later of a
-/// version's parts is what the plain collection answers at it.
+/// What legal answers rest on: a Scan that reaches past what was shown shows the last version; a command's token at its owned
+/// member tells that exactly one Cas of the command committed; and what is got later of a version's parts is what the plain
+/// collection answers at it.
 pub fn answers_legal()
     ensures newest { NewestShown }
+    ensures once { CommittedOnce }
     ensures rows { RowsGot }
     ensures step { StepGot }
 {}

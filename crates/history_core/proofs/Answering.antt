@@ -1,0 +1,72 @@
+-- The laws on which answers rest, over entries that go newest first.
+use Rattle.std.proofs.Common.{◌≡◌, ◌≢◌, ℕ, ◌+◌, ◌<◌, ◌≤◌, List, [], ◌∷◌, ◌⊎◌, inl, inr, refl, arith, subst, sym, ap, ◌∙◌, drop}
+use Rattle.std.specs.Prelude.{reverse, ⊤}
+use Rattle.update_core.specs.declared.updates.Update.{Update}
+use Rattle.store_core.specs.declared.shards.ShardId.{ShardId}
+use Rattle.store_core.specs.declared.entries.Entry.{Entry}
+use Rattle.store_core.specs.Stores.{Log, Stored}
+use Rattle.store_core.specs.Histories.{History, store_after}
+use Rattle.store_core.specs.Ports.{Answered}
+use Rattle.store_core.specs.Newest.{replay_back, mine_back}
+use Rattle.store_core.proofs.NewestLaws.{replay-newest, mine-newest}
+use Rattle.state_core.specs.declared.members.Member.{Member}
+use Rattle.state_core.specs.Lists.{Among}
+use Rattle.state_core.specs.States.{ShardState}
+use Rattle.state_core.specs.Steps.{Stands}
+use Rattle.history_core.specs.Histories.{ever}
+use Rattle.history_core.specs.Discipline.{Owns, IsCasUnder, LawfulBack}
+use Rattle.history_core.specs.Stands.{StandsFor, IsLast, StateIn}
+use Rattle.history_core.specs.Spending.{commits_under}
+use Rattle.history_core.specs.Laws.{LastIs}
+use Rattle.history_core.specs.Placing.{places, OnlyOne, CommitsUnder}
+use Rattle.history_core.specs.AnswerLaws.{CommittedOnce}
+use Rattle.history_core.proofs.Prefixes.{lawful_back}
+use Rattle.history_core.proofs.Bases.{base_of, newest_one, none_there}
+use Rattle.history_core.proofs.Blobs.{owners_at}
+use Rattle.history_core.proofs.StandsAfter.{agree_at, live_ever}
+use Rattle.history_core.proofs.Once.{counted}
+use Rattle.history_core.proofs.Committed.{one_placed}
+
+-- an element that has P
+found : {A : Type 0} (P : A → Type 0) (xs : List A) → Among P xs → (x : A) × Among (λ y. y ≡ x) xs × P x
+found P [] h = absurd h
+found P (x ∷ xs) (inl h) = (x, inl refl, h)
+found P (x ∷ xs) (inr h) = let (y, among, is) = found P xs h in (y, inr among, is)
+
+-- the members that the start knows are those below the base's
+start_top : (start : Stored) (shard : ShardId) (list : List Update) (st : StandsFor start shard list) (number : ℕ) (last : ShardState) → IsLast (start.logs shard) number →
+    StateIn shard (start.logs shard) number last → last.next_member ≤ (base_of start shard list st).start_member
+start_top start shard list (inl e) number last newest state = absurd (none_there shard (start.logs shard) number last e.no_version state)
+start_top start shard list (inr c) number last newest state =
+    let (same_number, same) = newest_one shard (start.logs shard) number c.number last c.last newest state c.newest c.state in
+    let e : last.next_member ≡ c.last.next_member = ap (λ (s : ShardState). s.next_member) same in omega arith
+
+-- what is last in the store is last of all versions that ever were
+last_ever : (start : Stored) (shard : ShardId) (list : List Update) (st : StandsFor start shard list) (es : List Entry) → LawfulBack start es → (n : ℕ) (s : ShardState) →
+    LastIs (replay_back start es) shard n s → IsLast (ever start shard es) n × StateIn shard (ever start shard es) n s
+last_ever start shard list st es l n s (last, state) =
+    let base = base_of start shard list st in
+    (last ∙ (agree_at start shard list base es l).next, (state.0, live_ever start shard list base es l n s state.0 state.1))
+
+-- where an owned member's token isn't 0, and no own Cas under it is older than the command, exactly one entry of the command committed under it
+pub committed_once : (start : Stored) (shard : ShardId) (list : List Update) (es : List Entry) → StandsFor start shard list → LawfulBack start es →
+    (client calls member token n : ℕ) (s : ShardState) → Owns (mine_back start es client) shard member → LastIs (replay_back start es) shard n s → 0 < token →
+    Stands member (λ m. m.token ≡ token) s.members → (¬ Among (λ o. IsCasUnder shard member token o.entry.call) (drop calls (mine_back start es client))) →
+    OnlyOne (CommitsUnder start shard member token) (λ p. ⊤) (places client calls es)
+committed_once start shard list es st l client calls member token n s owned newest pos stands none =
+    let base = base_of start shard list st in
+    let who = owners_at start shard base.start_member base.begin es l in
+    let (last, state) = last_ever start shard list st es l n s newest in
+    let (w, among, number, has) = found (λ (m : Member). (m.number ≡ member) × (m.token ≡ token)) s.members stands in
+    let told = (counted start shard base.start_member base.begin member (who.new client member owned) (start_top start shard list st) es l).standing n s last state w among number in
+    let spent : w.token ≢ 0 = (λ z. let e : w.token ≡ token = has in let e2 : w.token ≡ 0 = z in omega arith) in
+    let one = ap (λ t. commits_under start shard member t es) (sym has) ∙ told.at_token spent in
+    one_placed start shard base.begin.first member token client calls es l (λ d o. who.one d client member o owned) one none
+
+pub once_law : CommittedOnce
+once_law shard list h st l client calls member token n s owned newest pos stands none =
+    let own_is = mine-newest h client in
+    committed_once h.start shard list (reverse h.trail) st (lawful_back h l) client calls member token n s
+    (subst (λ (own : List Answered). Owns own shard member) own_is owned)
+    (subst (λ (t : Stored). LastIs t shard n s) (replay-newest h.start h.trail) newest) pos stands
+    (subst (λ (own : List Answered). ¬ Among (λ o. IsCasUnder shard member token o.entry.call) (drop calls own)) own_is none)
