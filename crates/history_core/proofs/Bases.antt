@@ -21,6 +21,8 @@ pub record Base (start : Stored) (shard : ShardId) (list : List Update) : Type 0
   pub present : Present shard (start.logs shard) start
   pub content : Contained shard (start.logs shard) start list
   pub unstarted : start.logs shard ≡ no_log → list ≡ []
+  -- no member of the start is above the bound
+  pub known : (number : ℕ) (last : ShardState) → IsLast (start.logs shard) number → StateIn shard (start.logs shard) number last → last.next_member ≤ start_member
 
 pub none_there : (shard : ShardId) (log : Log) (n : ℕ) (s : ShardState) → log ≡ no_log → StateIn shard log n s → ⊥
 none_there shard log n s e h = let g = subst (λ (l : Log). VersionIs shard l n s h.0) e h.1 in cc
@@ -37,6 +39,7 @@ base_empty start shard list e = record {
   present = λ number last newest st. absurd (none_there shard (start.logs shard) number last e.no_version st);
   content = λ number last newest st. absurd (none_there shard (start.logs shard) number last e.no_version st);
   unstarted = λ v. e.no_update;
+  known = λ number last newest st. absurd (none_there shard (start.logs shard) number last e.no_version st);
 }
 
 pub newest_one : (shard : ShardId) (log : Log) (number number2 : ℕ) (last last2 : ShardState) → IsLast log number → StateIn shard log number last → IsLast log number2 → StateIn shard log number2 last2 → (number ≡ number2) × (last ≡ last2)
@@ -67,6 +70,9 @@ base_collection start shard list c = record {
         unweighed = subst Unweighed f c.unweighed;
       };
   unstarted = λ v. absurd (none_there shard (start.logs shard) c.number c.last v c.state);
+  known = λ number last newest st.
+      let (e, f) = newest_one shard (start.logs shard) c.number number c.last last c.newest c.state newest st in
+      let same : c.last.next_member ≡ last.next_member = ap (λ (s : ShardState). s.next_member) f in omega arith;
 }
   where
     not_empty : (log : Log) → log.versions ≡ [] → (n : ℕ) (s : ShardState) → StateIn shard log n s → ⊥

@@ -23,6 +23,7 @@ pub mod Stays
 pub mod LawfulLaws
 pub mod AnswerLaws
 pub mod GotLaws
+pub mod SpentLaws
 pub mod GotRows
 pub mod Committed
 pub mod Answering

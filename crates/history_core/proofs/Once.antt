@@ -49,7 +49,7 @@ and_true2 : (a b : Bool) → (a && b) ≡ true → (a ≡ true) × (b ≡ true)
 and_true2 true b h = (refl, h)
 and_true2 false b h = cc
 
-true_spends : (s : ShardState) (x : Transition) (m t : ℕ) → is_spending (Some (s, x)) m t ≡ true → Spends x m t
+pub true_spends : (s : ShardState) (x : Transition) (m t : ℕ) → is_spending (Some (s, x)) m t ≡ true → Spends x m t
 true_spends s (Append a b c d e f g) m t h = let (p, q) = and_true2 (eqb a m) (eqb b t) h in (eqb-true a m p, eqb-true b t q)
 true_spends s (Merge a b c d e) m t h = let (p, q) = and_true2 (eqb a m) (eqb b t) h in (eqb-true a m p, eqb-true b t q)
 true_spends s Init m t h = cc
