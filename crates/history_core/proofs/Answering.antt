@@ -21,7 +21,7 @@ use Rattle.history_core.specs.Laws.{LastIs}
 use Rattle.history_core.specs.Placing.{places, OnlyOne, CommitsUnder}
 use Rattle.history_core.specs.AnswerLaws.{CommittedOnce}
 use Rattle.history_core.proofs.Prefixes.{lawful_back}
-use Rattle.history_core.proofs.Bases.{base_of, newest_one, none_there}
+use Rattle.history_core.proofs.Bases.{base_of}
 use Rattle.history_core.proofs.Blobs.{owners_at}
 use Rattle.history_core.proofs.StandsAfter.{agree_at, live_ever}
 use Rattle.history_core.proofs.Once.{counted}
@@ -32,14 +32,6 @@ found : {A : Type 0} (P : A → Type 0) (xs : List A) → Among P xs → (x : A)
 found P [] h = absurd h
 found P (x ∷ xs) (inl h) = (x, inl refl, h)
 found P (x ∷ xs) (inr h) = let (y, among, is) = found P xs h in (y, inr among, is)
-
--- the members that the start knows are those below the base's
-start_top : (start : Stored) (shard : ShardId) (list : List Update) (st : StandsFor start shard list) (number : ℕ) (last : ShardState) → IsLast (start.logs shard) number →
-    StateIn shard (start.logs shard) number last → last.next_member ≤ (base_of start shard list st).start_member
-start_top start shard list (inl e) number last newest state = absurd (none_there shard (start.logs shard) number last e.no_version state)
-start_top start shard list (inr c) number last newest state =
-    let (same_number, same) = newest_one shard (start.logs shard) number c.number last c.last newest state c.newest c.state in
-    let e : last.next_member ≡ c.last.next_member = ap (λ (s : ShardState). s.next_member) same in omega arith
 
 -- what is last in the store is last of all versions that ever were
 last_ever : (start : Stored) (shard : ShardId) (list : List Update) (st : StandsFor start shard list) (es : List Entry) → LawfulBack start es → (n : ℕ) (s : ShardState) →
@@ -57,8 +49,9 @@ committed_once start shard list es st l client calls member token n s owned newe
     let base = base_of start shard list st in
     let who = owners_at start shard base.start_member base.begin es l in
     let (last, state) = last_ever start shard list st es l n s newest in
-    let (w, among, number, has) = found (λ (m : Member). (m.number ≡ member) × (m.token ≡ token)) s.members stands in
-    let told = (counted start shard base.start_member base.begin member (who.new client member owned) (start_top start shard list st) es l).standing n s last state w among number in
+    let (w, among, is) = found (λ (m : Member). (m.number ≡ member) × (m.token ≡ token)) s.members stands in
+    let has = is.1 in
+    let told = (counted start shard base.start_member base.begin member (who.new client member owned) base.known es l).standing n s last state w among is.0 in
     let spent : w.token ≢ 0 = (λ z. let e : w.token ≡ token = has in let e2 : w.token ≡ 0 = z in omega arith) in
     let one = ap (λ t. commits_under start shard member t es) (sym has) ∙ told.at_token spent in
     one_placed start shard base.begin.first member token client calls es l (λ d o. who.one d client member o owned) one none

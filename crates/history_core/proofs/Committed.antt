@@ -65,9 +65,10 @@ counted_commits start shard member token e es h = go e.call refl h
         let (took_and, spends) = and_true _ _ k in
         let (took, here_and) = and_true _ _ took_and in
         let (here, commit) = and_true _ _ here_and in
-        let s_is = shard_eq s shard here in
-        (record { expected = Some n; bytes = bytes; call_is = c ∙ ap (λ (q : ShardId). calls.Cas q (Some n) bytes) s_is; took = took; commit = commit },
-         subst (λ (q : Call). IsCasUnder shard member token q) (sym c) (s_is, spends_in (version_in shard (n + 1) bytes) member token spends))
+        let s_is = shard_eq s shard here in (
+          record { expected = Some n; bytes = bytes; call_is = c ∙ ap (λ (q : ShardId). calls.Cas q (Some n) bytes) s_is; took = took; commit = commit },
+          subst (λ (q : Call). IsCasUnder shard member token q) (sym c) (s_is, spends_in (version_in shard (n + 1) bytes) member token spends),
+        )
     go (calls.Cas s None bytes) c k = cc
     go (calls.Head s) c k = cc
     go (calls.Scan s from) c k = cc
