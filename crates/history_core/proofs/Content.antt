@@ -18,7 +18,7 @@ use Rattle.state_core.specs.declared.transitions.Transition.{Transition}
 use Rattle.state_core.specs.declared.transitions.Transition.TheVariants.{Init, Join, Leave, Renew, Advance, Expire, Append, Merge}
 use Rattle.state_core.specs.States.{ShardState, IsState, floor, keys_of}
 use Rattle.state_core.specs.Steps.{Applies, Takes, Adds}
-use Rattle.state_core.specs.Versions.{version_in}
+use Rattle.state_core.specs.VersionReading.{version_in}
 use Rattle.state_core.proofs.ListLemmas.{each_both, each_intro, bool_cases, append-nil}
 use Rattle.state_core.proofs.Floors.{floor_top, floor_rises}
 use Rattle.state_core.proofs.Batches.{runs_each, runs_state, upper_rises, Unweighed, unweighed_on, each_part}

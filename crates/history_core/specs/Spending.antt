@@ -10,7 +10,7 @@ use Rattle.store_core.specs.Newest.{replay_back}
 use Rattle.state_core.specs.declared.transitions.Transition.{Transition}
 use Rattle.state_core.specs.declared.transitions.Transition.TheVariants.{Append, Merge}
 use Rattle.state_core.specs.States.{ShardState}
-use Rattle.state_core.specs.Versions.{version_in}
+use Rattle.state_core.specs.VersionReading.{version_in}
 use Rattle.history_core.specs.Histories.{commits, took_effect, same_shard}
 
 -- whether a version's transition spends this token of this member

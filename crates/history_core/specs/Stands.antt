@@ -18,7 +18,7 @@ use Rattle.state_core.specs.declared.transitions.Transition.{Transition}
 use Rattle.state_core.specs.declared.transitions.Transition.TheVariants.{Init, Append}
 use Rattle.state_core.specs.States.{ShardState, floor, Names, KeyFits}
 use Rattle.state_core.specs.Steps.{Applies, Takes, init}
-use Rattle.state_core.specs.Versions.{version_in}
+use Rattle.state_core.specs.VersionReading.{version_in}
 use Rattle.history_core.specs.Readings.{rows_in}
 use Rattle.history_core.specs.Histories.{version_at, commits, took_effect, same_shard}
 

@@ -6,5 +6,16 @@ pub mod Rules
 pub mod Determined
 pub mod Refused
 pub mod Rising
-pub mod VersionFacts
 pub mod Tokens
+pub mod VersionWriting
+pub mod VersionFields
+pub mod VersionMembers
+pub mod VersionMemberLists
+pub mod VersionKeys
+pub mod VersionBatches
+pub mod VersionBatchRules
+pub mod VersionBatchLists
+pub mod VersionSteps
+pub mod VersionTransitions
+pub mod VersionStates
+pub mod VersionFacts

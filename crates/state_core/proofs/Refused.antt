@@ -152,12 +152,12 @@ split_at left right (a ∷ b ∷ bs) h = elim (bool_cases (same_batch a left && 
       (a ∷ before, behind, ap (λ us. a ∷ us) eq)
 ]
 
-join_shape : (s : ShardState) (kind : Kind) (now lease : ℕ) → is_shaped s (Join kind now lease) ≡ true → JoinShape kind now lease
+pub join_shape : (s : ShardState) (kind : Kind) (now lease : ℕ) → is_shaped s (Join kind now lease) ≡ true → JoinShape kind now lease
 join_shape s Writer now lease h = let (p, q) = and_true (eqb now 0) _ h in (eqb-true now 0 p, eqb-true lease 0 q)
 join_shape s Reader now lease h = tt
 join_shape s Keeper now lease h = tt
 
-append_shape : (s : ShardState) (member token expected : ℕ) (new : Option ℕ) (parts : List PartKey) (rows weight : ℕ) → is_shaped s (Append member token expected new parts rows weight) ≡ true → AppendShape s.shard member token expected new parts rows weight
+pub append_shape : (s : ShardState) (member token expected : ℕ) (new : Option ℕ) (parts : List PartKey) (rows weight : ℕ) → is_shaped s (Append member token expected new parts rows weight) ≡ true → AppendShape s.shard member token expected new parts rows weight
 append_shape s member token expected new parts rows weight h =
     let (p1, q1) = and_true (covers new expected) _ h in
     let (p2, q2) = and_true (leb rows 65536) _ q1 in
@@ -166,7 +166,7 @@ append_shape s member token expected new parts rows weight h =
     let (p5, q5) = and_true (are_keys s.shard member token 0 parts) _ q4 in
     record { forward = p1; few = leb-true _ _ p2; dense = leb-true _ _ p3; light = leb-true _ _ p4; keys = are_keys_is s.shard member token 0 parts p5; count = part_count_is rows (length parts) q5 }
 
-merge_shape : (s : ShardState) (member token : ℕ) (left right merged : Batch) → is_shaped s (Merge member token left right merged) ≡ true → MergeShape s member token left right merged
+pub merge_shape : (s : ShardState) (member token : ℕ) (left right merged : Batch) → is_shaped s (Merge member token left right merged) ≡ true → MergeShape s member token left right merged
 merge_shape s member token left right merged h =
     let (p1, q1) = and_true (frontier_eq left.desc.upper (Some right.desc.lower)) _ h in
     let (p2, q2) = and_true (eqb merged.desc.lower left.desc.lower) _ q1 in
@@ -310,16 +310,16 @@ follows_is left right [] behind = rw (batch_same left, batch_same right) refl
 follows_is left right (a ∷ []) behind = elim (bool_cases (same_batch a left && same_batch left right)) [ inl e ↦ rw e refl | inr e ↦ follows_next left right a left (right ∷ behind) e ∙ follows_is left right [] behind ]
 follows_is left right (a ∷ b ∷ before) behind = elim (bool_cases (same_batch a left && same_batch b right)) [ inl e ↦ rw e refl | inr e ↦ follows_next left right a b (before ++ left ∷ right ∷ behind) e ∙ follows_is left right (b ∷ before) behind ]
 
-shaped_append : (s : ShardState) (member token expected : ℕ) (new : Option ℕ) (parts : List PartKey) (rows weight : ℕ) → AppendShape s.shard member token expected new parts rows weight → is_shaped s (Append member token expected new parts rows weight) ≡ true
+pub shaped_append : (s : ShardState) (member token expected : ℕ) (new : Option ℕ) (parts : List PartKey) (rows weight : ℕ) → AppendShape s.shard member token expected new parts rows weight → is_shaped s (Append member token expected new parts rows weight) ≡ true
 shaped_append s member token expected new parts rows weight h =
     both_true _ _ h.forward (both_true _ _ (le-leb _ _ h.few) (both_true _ _ (le-leb _ _ h.dense) (both_true _ _ (le-leb _ _ h.light) (both_true _ _ (keys_are s.shard member token 0 parts h.keys) (count_is rows (length parts) h.count)))))
 
-shaped_merge : (s : ShardState) (member token : ℕ) (left right merged : Batch) → MergeShape s member token left right merged → is_shaped s (Merge member token left right merged) ≡ true
+pub shaped_merge : (s : ShardState) (member token : ℕ) (left right merged : Batch) → MergeShape s member token left right merged → is_shaped s (Merge member token left right merged) ≡ true
 shaped_merge s member token left right merged h =
     both_true _ _ (frontier_self _ _ h.joins) (both_true _ _ (eq-eqb _ _ h.lower) (both_true _ _ (frontier_self _ _ h.upper) (both_true _ _ (le-leb _ _ h.from_left) (both_true _ _ (le-leb _ _ h.from_right)
     (both_true _ _ (le-leb _ _ h.since) (both_true _ _ (le-leb _ _ h.rows) (both_true _ _ (keys_are s.shard member token 0 merged.parts h.keys) (count_is merged.rows (length merged.parts) h.count))))))))
 
-shaped_join : (s : ShardState) (kind : Kind) (now lease : ℕ) → JoinShape kind now lease → is_shaped s (Join kind now lease) ≡ true
+pub shaped_join : (s : ShardState) (kind : Kind) (now lease : ℕ) → JoinShape kind now lease → is_shaped s (Join kind now lease) ≡ true
 shaped_join s Writer now lease h = both_true _ _ (eq-eqb now 0 h.0) (eq-eqb lease 0 h.1)
 shaped_join s Reader now lease h = refl
 shaped_join s Keeper now lease h = refl

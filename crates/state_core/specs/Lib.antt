@@ -3,3 +3,4 @@ pub mod States
 pub mod Steps
 pub mod Refusals
 pub mod Versions
+pub mod VersionReading

@@ -8,6 +8,10 @@ mod members;
 mod refusals;
 mod states;
 mod transitions;
+mod version_encoding;
+mod version_faults;
+mod version_fields;
+pub mod version_laws;
 
 pub use kinds::Kind;
 pub use member_lists::MemberList;
@@ -15,3 +19,5 @@ pub use members::Member;
 pub use refusals::Refusal;
 pub use states::State;
 pub use transitions::Transition;
+pub use version_encoding::encode_version;
+pub use version_faults::VersionFault;
