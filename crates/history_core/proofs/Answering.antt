@@ -23,7 +23,7 @@ use Rattle.history_core.specs.AnswerLaws.{CommittedOnce}
 use Rattle.history_core.proofs.Prefixes.{lawful_back}
 use Rattle.history_core.proofs.Bases.{base_of}
 use Rattle.history_core.proofs.Blobs.{owners_at}
-use Rattle.history_core.proofs.StandsAfter.{agree_at, live_ever}
+use Rattle.history_core.proofs.Lasts.{last_ever}
 use Rattle.history_core.proofs.Once.{counted}
 use Rattle.history_core.proofs.Committed.{one_placed}
 
@@ -32,13 +32,6 @@ found : {A : Type 0} (P : A → Type 0) (xs : List A) → Among P xs → (x : A)
 found P [] h = absurd h
 found P (x ∷ xs) (inl h) = (x, inl refl, h)
 found P (x ∷ xs) (inr h) = let (y, among, is) = found P xs h in (y, inr among, is)
-
--- what is last in the store is last of all versions that ever were
-last_ever : (start : Stored) (shard : ShardId) (list : List Update) (st : StandsFor start shard list) (es : List Entry) → LawfulBack start es → (n : ℕ) (s : ShardState) →
-    LastIs (replay_back start es) shard n s → IsLast (ever start shard es) n × StateIn shard (ever start shard es) n s
-last_ever start shard list st es l n s (last, state) =
-    let base = base_of start shard list st in
-    (last ∙ (agree_at start shard list base es l).next, (state.0, live_ever start shard list base es l n s state.0 state.1))
 
 -- where an owned member's token isn't 0, and no own Cas under it is older than the command, exactly one entry of the command committed under it
 pub committed_once : (start : Stored) (shard : ShardId) (list : List Update) (es : List Entry) → StandsFor start shard list → LawfulBack start es →

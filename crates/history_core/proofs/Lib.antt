@@ -25,5 +25,6 @@ pub mod AnswerLaws
 pub mod GotLaws
 pub mod SpentLaws
 pub mod GotRows
+pub mod Lasts
 pub mod Committed
 pub mod Answering
