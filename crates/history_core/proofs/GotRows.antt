@@ -46,14 +46,22 @@ step_by c f to rows false true past h = absurd (cc)
 step_by c f to rows false false true h = (refl, refl, cc, cc)
 step_by c f to rows false false false h = absurd (cc)
 
+-- a step of a listen from a frontier
+pub record IsStepOf (c : PlainCollection) (f to : Option ℕ) (rows : List Update) : Type 0 where
+  pub time : ℕ
+  pub at : f ≡ Some time
+  pub past_since : c.since < time
+  pub before_upper : covers c.upper time ≡ true
+  pub end : to ≡ c.upper
+  pub slice : slice_of c.updates f c.upper ≡ rows
+
 -- where a listen is answered with a step, its frontier is a time past the since, and the step is the slice up to the upper
-pub listen_step : (c : PlainCollection) (f to : Option ℕ) (rows : List Update) → listen_answer c f ≡ step rows to →
-    (time : ℕ) × (f ≡ Some time) × (c.since < time) × (to ≡ c.upper) × (slice_of c.updates f c.upper ≡ rows)
+pub listen_step : (c : PlainCollection) (f to : Option ℕ) (rows : List Update) → listen_answer c f ≡ step rows to → IsStepOf c f to rows
 unfolding answer_by
 listen_step c None to rows h = absurd (let p = step_by c None to rows false (is_closed None && is_closed c.upper) false h in let no : false ≡ true = p.1 in cc)
 listen_step c (Some time) to rows h =
     let p = step_by c (Some time) to rows (leb time c.since) (is_closed (Some time) && is_closed c.upper) (covers c.upper time) h in
-    (time, refl, after_since time p.0, p.2, p.3)
+    record { time = time; at = refl; past_since = after_since time p.0; before_upper = p.1; end = p.2; slice = p.3 }
   where
     after_since : (t : ℕ) → leb t c.since ≡ false → c.since < t
     after_since t e = elim (leb_tells t c.since) [ inl q ↦ absurd (let e2 = q.0 in cc) | inr q ↦ q.1 ]
@@ -65,8 +73,8 @@ rows_law shard list h later st l n s is t rows answer client updates held =
 
 pub step_law : StepGot
 step_law shard list h later st l n s is f to rows answer client updates held =
-    let (time, at, past, end, same) = listen_step (collection_in (accepted_of shard list h) s) f to rows answer in
-    let held2 = subst (λ (g : Option ℕ). Hold (GotAs (own_past h later client)) (keys_of (ending_past g s.batches)) updates) at held in
-    subst (λ (g : Option ℕ). slice_of updates f g ≡ rows) (sym end)
-    (subst (λ (g : Option ℕ). slice_of updates g s.upper ≡ rows) (sym at)
-    (slice_law shard list h later st l n s is client time updates past held2 ∙ subst (λ (g : Option ℕ). slice_of (accepted_of shard list h) g s.upper ≡ rows) at same))
+    let found = listen_step (collection_in (accepted_of shard list h) s) f to rows answer in
+    let held2 = subst (λ (g : Option ℕ). Hold (GotAs (own_past h later client)) (keys_of (ending_past g s.batches)) updates) found.at held in
+    let slice2 = subst (λ (g : Option ℕ). slice_of (accepted_of shard list h) g s.upper ≡ rows) found.at found.slice in
+    subst (λ (g : Option ℕ). slice_of updates f g ≡ rows) (sym found.end)
+    (subst (λ (g : Option ℕ). slice_of updates g s.upper ≡ rows) (sym found.at) (slice_law shard list h later st l n s is client found.time updates found.past_since held2 ∙ slice2))

@@ -26,5 +26,7 @@ pub mod GotLaws
 pub mod SpentLaws
 pub mod GotRows
 pub mod Lasts
+pub mod Later
+pub mod Steps
 pub mod Committed
 pub mod Answering

@@ -1,8 +1,10 @@
 -- What legal answers rest on, in histories alone.
-use Rattle.std.specs.Prelude.{◌≡◌, ℕ, ◌<◌, List, reverse, drop, Option, ⊤}
+use Rattle.std.specs.Prelude.{◌≡◌, ℕ, ◌<◌, false, List, ◌++◌, reverse, drop, Option, ⊤}
+use Rattle.std.specs.Ordering.{is_gt}
 use Rattle.update_core.specs.declared.rows.Row.{Row}
 use Rattle.update_core.specs.declared.updates.Update.{Update}
-use Rattle.update_core.specs.Updates.{sum_of, slice_of}
+use Rattle.update_core.specs.Frontiers.{frontier_cmp}
+use Rattle.update_core.specs.Updates.{sum_of, slice_of, OutOf}
 use Rattle.update_core.specs.Collections.{snapshot_answer, listen_answer, content, step}
 use Rattle.store_core.specs.declared.shards.ShardId.{ShardId}
 use Rattle.store_core.specs.declared.entries.Entry.{Entry}
@@ -45,3 +47,20 @@ StepGot =
     (n : ℕ) (s : ShardState) → LastIs (store_after h) shard n s → (f to : Option ℕ) (rows : List Update) →
     listen_answer (collection_in (accepted_of shard list h) s) f ≡ step rows to → (client : ℕ) (updates : List Update) →
     Hold (GotAs (own_past h later client)) (keys_of (ending_past f s.batches)) updates → slice_of updates f to ≡ rows
+
+-- What is accepted later lies past the upper.
+abbrev pub AcceptedGrows : Type 0
+AcceptedGrows =
+    (shard : ShardId) (list : List Update) (h : History) (later : List Entry) → StandsFor h.start shard list → Lawful (with_entries h later) →
+    (n : ℕ) (s : ShardState) → LastIs (store_after h) shard n s →
+    (more : List Update) × (accepted_of shard list (with_entries h later) ≡ accepted_of shard list h ++ more) × OutOf s.upper more
+
+-- Where a listen is at the upper of a place, with the slice from f up to there, its next step, at whatever later place, makes of
+-- it the slice from f up to the upper there.
+abbrev pub StepsJoin : Type 0
+StepsJoin =
+    (shard : ShardId) (list : List Update) (h : History) (later : List Entry) → StandsFor h.start shard list → Lawful (with_entries h later) →
+    (n : ℕ) (s : ShardState) → LastIs (store_after h) shard n s → (m : ℕ) (last : ShardState) → LastIs (store_after (with_entries h later)) shard m last →
+    (f to : Option ℕ) (rows : List Update) → is_gt (frontier_cmp f s.upper) ≡ false →
+    listen_answer (collection_in (accepted_of shard list (with_entries h later)) last) s.upper ≡ step rows to →
+    slice_of (accepted_of shard list h) f s.upper ++ rows ≡ slice_of (accepted_of shard list (with_entries h later)) f to

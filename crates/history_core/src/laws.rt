@@ -4,7 +4,7 @@ ghost use Rattle.std.specs.Ordering.{is_gt};
 ghost use Rattle.update_core.specs.declared.updates.Update.{Update};
 ghost use Rattle.update_core.specs.Frontiers.{frontier_cmp};
 ghost use Rattle.update_core.specs.Updates.{OutOf, slice_of};
-ghost use Rattle.history_core.specs.AnswerLaws.{CommittedOnce, RowsGot, StepGot};
+ghost use Rattle.history_core.specs.AnswerLaws.{AcceptedGrows, CommittedOnce, RowsGot, StepGot, StepsJoin};
 ghost use Rattle.history_core.specs.Answers.{NewestShown};
 ghost use Rattle.history_core.specs.Laws.{LawfulStandsFor, LeasedPresent, LeasedUnchanged, LawfulPrefix, FloorNeverFalls};
 
@@ -43,4 +43,11 @@ pub fn answers_legal()
 pub fn slices_join()
     ensures { (us more : List Update) (f g h : Option ℕ) → is_gt (frontier_cmp f g) ≡ false → is_gt (frontier_cmp g h) ≡ false → OutOf g more
         → slice_of us f g ++ slice_of (us ++ more) g h ≡ slice_of (us ++ more) f h }
+{}
+
+/// What is accepted later lies past the upper, and so the steps of one listen, one after the other, are one slice of the
+/// accepted list.
+pub fn steps_join()
+    ensures grows { AcceptedGrows }
+    ensures joined { StepsJoin }
 {}
