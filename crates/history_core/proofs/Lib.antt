@@ -28,5 +28,6 @@ pub mod GotRows
 pub mod Lasts
 pub mod Later
 pub mod Steps
+pub mod Appends
 pub mod Committed
 pub mod Answering

@@ -1,25 +1,28 @@
 -- What legal answers rest on, in histories alone.
-use Rattle.std.specs.Prelude.{◌≡◌, ℕ, ◌<◌, false, List, ◌++◌, reverse, drop, Option, ⊤}
+use Rattle.std.specs.Prelude.{◌≡◌, ℕ, ◌+◌, ◌<◌, false, List, ◌++◌, reverse, drop, Option, Some, ⊤}
 use Rattle.std.specs.Ordering.{is_gt}
 use Rattle.update_core.specs.declared.rows.Row.{Row}
 use Rattle.update_core.specs.declared.updates.Update.{Update}
 use Rattle.update_core.specs.Frontiers.{frontier_cmp}
-use Rattle.update_core.specs.Updates.{sum_of, slice_of, OutOf}
+use Rattle.update_core.specs.Updates.{cons, weight_of, sum_of, slice_of, OutOf}
 use Rattle.update_core.specs.Collections.{snapshot_answer, listen_answer, content, step}
 use Rattle.store_core.specs.declared.shards.ShardId.{ShardId}
+use Rattle.store_core.specs.declared.part_keys.PartKey.{PartKey}
 use Rattle.store_core.specs.declared.entries.Entry.{Entry}
-use Rattle.store_core.specs.Histories.{History, store_after}
+use Rattle.store_core.specs.Histories.{History, store_after, with_entry}
 use Rattle.store_core.specs.Ports.{with_entries}
+use Rattle.state_core.specs.declared.transitions.Transition.TheVariants.{Append}
 use Rattle.state_core.specs.Lists.{Among}
 use Rattle.state_core.specs.States.{ShardState, keys_of}
 use Rattle.state_core.specs.Steps.{Stands}
+use Rattle.state_core.specs.VersionReading.{version_in}
 use Rattle.history_core.specs.Discipline.{Lawful, Owns, IsCasUnder, GotAs, Hold}
-use Rattle.history_core.specs.Stands.{StandsFor, accepted_of}
+use Rattle.history_core.specs.Stands.{StandsFor, accepted_of, rows_under}
 use Rattle.history_core.specs.Questions.{begun_by, ending_past}
 use Rattle.history_core.specs.Laws.{LastIs}
 use Rattle.history_core.specs.Answers.{own_of, own_past}
-use Rattle.history_core.specs.Placing.{places, OnlyOne, CommitsUnder}
-use Rattle.history_core.specs.Legal.{collection_in}
+use Rattle.history_core.specs.Placing.{placed, places, OnlyOne, Commits, CommitsUnder}
+use Rattle.history_core.specs.Legal.{collection_in, AcceptedAt}
 
 -- Where an owned member's token in the last version is the command's and isn't 0, and each own Cas under them is the command's,
 -- exactly one of these committed.
@@ -64,3 +67,13 @@ StepsJoin =
     (f to : Option ℕ) (rows : List Update) → is_gt (frontier_cmp f s.upper) ≡ false →
     listen_answer (collection_in (accepted_of shard list (with_entries h later)) last) s.upper ≡ step rows to →
     slice_of (accepted_of shard list h) f s.upper ++ rows ≡ slice_of (accepted_of shard list (with_entries h later)) f to
+
+-- An entry that commits an Append of rows, whose parts hold their consolidation and whose weight is theirs, is accepted by the
+-- collection at its place, and extends it by the rows.
+abbrev pub AppendsAccepted : Type 0
+AppendsAccepted =
+    (shard : ShardId) (list : List Update) (h : History) (e : Entry) → StandsFor h.start shard list → Lawful (with_entry h e) →
+    (c : Commits h.start shard (placed e (reverse h.trail))) (n : ℕ) → c.expected ≡ Some n →
+    (to : ShardState) (member token expected : ℕ) (new : Option ℕ) (parts : List PartKey) (count : ℕ) (rows : List Update) →
+    version_in shard (n + 1) c.bytes ≡ Some (to, Append member token expected new parts count (weight_of rows)) →
+    rows_under (store_after h) parts ≡ cons rows → AcceptedAt list h.start shard rows expected new (placed e (reverse h.trail))

@@ -8,10 +8,9 @@ use Rattle.store_core.specs.declared.entries.Entry.{Entry}
 use Rattle.store_core.specs.Stores.{Stored}
 use Rattle.store_core.specs.Histories.{faults_of}
 use Rattle.store_core.specs.Newest.{replay_back}
-use Rattle.spine_core.specs.declared.batches.Batch.{Batch}
-use Rattle.state_core.specs.States.{ShardState, keys_of}
+use Rattle.state_core.specs.States.{ShardState}
 use Rattle.history_core.specs.Histories.{same_shard, commits, took_effect}
-use Rattle.history_core.specs.Questions.{begun_by, ending_past}
+use Rattle.history_core.specs.Legal.{snapshot_keys, step_keys}
 
 -- whether a call that comes to a store commits a version of the shard
 abbrev pub commits_on : ShardId → Stored → Call → Outcome → Bool
@@ -55,8 +54,8 @@ read_base parts = parts + 2
 
 -- how many parts a snapshot at a time reads of a state
 abbrev pub snapshot_parts : ℕ → ShardState → ℕ
-snapshot_parts t s = length (keys_of (begun_by t s.batches))
+snapshot_parts t s = length (snapshot_keys t s)
 
 -- how many parts a step of a listen from a frontier reads of a state
 abbrev pub step_parts : Option ℕ → ShardState → ℕ
-step_parts f s = length (keys_of (ending_past f s.batches))
+step_parts f s = length (step_keys f s)

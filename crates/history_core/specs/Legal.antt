@@ -1,11 +1,13 @@
 -- Which answer to a command is legal over a history: what the plain collection answers at the place that the answer names. Entries go newest first.
 use Rattle.std.specs.Prelude.{◌≡◌, ℕ, ◌+◌, ◌<◌, List, ◌∷◌, length, reverse, Option, IsSomeAnd, ◌⊎◌, ⊤}
+use Rattle.std.specs.List.{AllByRecursion}
 use Rattle.update_core.specs.declared.updates.Update.{Update}
 use Rattle.update_core.specs.Frontiers.{after}
 use Rattle.update_core.specs.Updates.{weight_of}
 use Rattle.update_core.specs.Collections.{Collection as PlainCollection, AppendAnswer, append_answer, extended, SnapshotAnswer, snapshot_answer, ListenAnswer, listen_answer}
 use Rattle.update_core.specs.Collections.{accepted as append_accepted, mismatch, heavy, content, early, late, behind, ended, quiet, step}
 use Rattle.store_core.specs.declared.shards.ShardId.{ShardId}
+use Rattle.store_core.specs.declared.part_keys.PartKey.{PartKey}
 use Rattle.store_core.specs.declared.entries.Entry.{Entry}
 use Rattle.store_core.specs.Stores.{Stored}
 use Rattle.store_core.specs.Histories.{History}
@@ -14,7 +16,7 @@ use Rattle.state_core.specs.declared.kinds.Kind.TheVariants.{Writer, Reader}
 use Rattle.state_core.specs.declared.members.Member.{Member}
 use Rattle.state_core.specs.declared.transitions.Transition.TheVariants.{Join, Leave, Renew, Advance}
 use Rattle.state_core.specs.Lists.{Among}
-use Rattle.state_core.specs.States.{ShardState}
+use Rattle.state_core.specs.States.{ShardState, keys_of}
 use Rattle.state_core.specs.Steps.{Stands}
 use Rattle.history_core.specs.declared.asked.Asked.{Asked}
 use Rattle.history_core.specs.declared.asked.Asked.TheVariants as asks
@@ -23,8 +25,9 @@ use Rattle.history_core.specs.declared.write_answers.WriteAnswer.TheVariants as 
 use Rattle.history_core.specs.declared.read_answers.ReadAnswer.{ReadAnswer}
 use Rattle.history_core.specs.declared.read_answers.ReadAnswer.TheVariants as reads
 use Rattle.history_core.specs.Stands.{accepted}
+use Rattle.history_core.specs.Questions.{begun_by, ending_past}
 use Rattle.history_core.specs.Laws.{LastIs}
-use Rattle.history_core.specs.Placing.{Placed, placed, places, store_at, OnlyOne, Commits, CommittedAs, AtLastScan}
+use Rattle.history_core.specs.Placing.{Placed, placed, places, store_at, OnlyOne, Commits, CommittedAs, AtLastScan, GotSinceScan}
 
 -- a client's command: its machine's shard and member, the token drawn, the listen's frontier at its begin, what it asked, and how many of the client's newest entries are its own
 pub record Command : Type 0 where
@@ -108,6 +111,18 @@ Snapshots list start shard member t answer ps = Reads list start shard member (�
 -- the collection gives a listen from this frontier this answer
 abbrev pub Listens : List Update → Stored → ShardId → ℕ → Option ℕ → ListenAnswer → List Placed → Type 0
 Listens list start shard member f answer ps = Reads list start shard member (λ c. listen_answer c f ≡ answer) ps
+
+-- the parts of a state that a snapshot at a time reads
+abbrev pub snapshot_keys : ℕ → ShardState → List PartKey
+snapshot_keys t s = keys_of (begun_by t s.batches)
+
+-- the parts of a state that a step of a listen from a frontier reads
+abbrev pub step_keys : Option ℕ → ShardState → List PartKey
+step_keys f s = keys_of (ending_past f s.batches)
+
+-- each of these parts of the last version at the last Scan was answered with bytes since then
+abbrev pub PartsGot : Stored → ShardId → (ShardState → List PartKey) → List Placed → Type 0
+PartsGot start shard parts ps = AtLastScan shard (AtLast start shard (λ n s. AllByRecursion (λ k. GotSinceScan start shard k ps) (parts s))) ps
 
 -- at the last Scan the reader's own since is this one
 abbrev pub HasSince : Stored → ShardId → ℕ → ℕ → List Placed → Type 0

@@ -4,7 +4,7 @@ ghost use Rattle.std.specs.Ordering.{is_gt};
 ghost use Rattle.update_core.specs.declared.updates.Update.{Update};
 ghost use Rattle.update_core.specs.Frontiers.{frontier_cmp};
 ghost use Rattle.update_core.specs.Updates.{OutOf, slice_of};
-ghost use Rattle.history_core.specs.AnswerLaws.{AcceptedGrows, CommittedOnce, RowsGot, StepGot, StepsJoin};
+ghost use Rattle.history_core.specs.AnswerLaws.{AcceptedGrows, AppendsAccepted, CommittedOnce, RowsGot, StepGot, StepsJoin};
 ghost use Rattle.history_core.specs.Answers.{NewestShown};
 ghost use Rattle.history_core.specs.Laws.{LawfulStandsFor, LeasedPresent, LeasedUnchanged, LawfulPrefix, FloorNeverFalls};
 
@@ -50,4 +50,9 @@ pub fn slices_join()
 pub fn steps_join()
     ensures grows { AcceptedGrows }
     ensures joined { StepsJoin }
+{}
+
+/// An append that commits is one that the plain collection accepts at its place, which then has its rows, consolidated.
+pub fn appends_accepted()
+    ensures { AppendsAccepted }
 {}
