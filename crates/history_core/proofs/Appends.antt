@@ -86,7 +86,7 @@ pub append_accepted_at : (start : Stored) (shard : ShardId) (list : List Update)
     AcceptedAt list start shard rows expected new (placed e es)
 append_accepted_at start shard list st e es l k n at to member token expected new parts count weight written rows held heavy =
     go (commit_of start shard (base_of start shard list st).begin.first es e.client k.expected k.bytes k.commit
-      (subst (λ (q : Call). Allows (mine_back start es e.client) q) k.call_is (lawful_newest start e es l)))
+    (subst (λ (q : Call). Allows (mine_back start es e.client) q) k.call_is (lawful_newest start e es l)))
   where
     go : CommitsFirst shard (ever start shard es) k.expected k.bytes ⊎ CommitBy (mine_back start es e.client) shard (ever start shard es) k.expected k.bytes → AcceptedAt list start shard rows expected new (placed e es)
     go (inl f) = absurd (let a = f.none in let b : Some n ≡ None = sym at ∙ a in cc)
@@ -102,7 +102,7 @@ append_accepted_at start shard list st e es l k n at to member token expected ne
         let last : IsLast (ever start shard (e ∷ es)) (m.n + 1) =
         subst (λ (g : Log). IsLast g (m.n + 1)) (sym grows) (ap (λ j. j + 1) m.last ∙ sym (end_of-committed (ever start shard es) k.bytes)) in
         let state = subst (λ (s : ShardState). StateIn shard (ever start shard (e ∷ es)) (m.n + 1) s) to_is
-            (subst (λ (g : Log). StateIn shard g (m.n + 1) m.to) (sym grows) (state_new shard (ever start shard es) k.bytes m)) in
+        (subst (λ (g : Log). StateIn shard g (m.n + 1) m.to) (sym grows) (state_new shard (ever start shard es) k.bytes m)) in
         let new_rows : appended (replay_back start es) shard e e.call ≡ cons rows =
         appended_grown (replay_back start es) shard e e.call k.expected n k.bytes to (Append member token expected new parts count weight) k.call_is at k.took k.commit written ∙ held in
         record {

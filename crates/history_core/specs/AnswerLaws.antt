@@ -38,7 +38,8 @@ CommittedOnce =
 -- Gets gave for all parts of the last version's batches that begin at the time or before hold updates with that content.
 abbrev pub RowsGot : Type 0
 RowsGot =
-    (shard : ShardId) (list : List Update) (h : History) (later : List Entry) → StandsFor h.start shard list → Lawful (with_entries h later) →
+    (shard : ShardId) (list : List Update) (h : History) (later : List Entry) →
+    StandsFor h.start shard list → Lawful (with_entries h later) →
     (n : ℕ) (s : ShardState) → LastIs (store_after h) shard n s → (t : ℕ) (rows : List Row) →
     snapshot_answer (collection_in (accepted_of shard list h) s) t ≡ content rows → (client : ℕ) (updates : List Update) →
     Hold (GotAs (own_past h later client)) (keys_of (begun_by t s.batches)) updates → sum_of updates t ≡ rows
@@ -46,7 +47,8 @@ RowsGot =
 -- Where it gives a listen a step there, the bytes for all parts of the batches that end past the frontier hold that slice.
 abbrev pub StepGot : Type 0
 StepGot =
-    (shard : ShardId) (list : List Update) (h : History) (later : List Entry) → StandsFor h.start shard list → Lawful (with_entries h later) →
+    (shard : ShardId) (list : List Update) (h : History) (later : List Entry) →
+    StandsFor h.start shard list → Lawful (with_entries h later) →
     (n : ℕ) (s : ShardState) → LastIs (store_after h) shard n s → (f to : Option ℕ) (rows : List Update) →
     listen_answer (collection_in (accepted_of shard list h) s) f ≡ step rows to → (client : ℕ) (updates : List Update) →
     Hold (GotAs (own_past h later client)) (keys_of (ending_past f s.batches)) updates → slice_of updates f to ≡ rows
@@ -54,7 +56,8 @@ StepGot =
 -- What is accepted later lies past the upper.
 abbrev pub AcceptedGrows : Type 0
 AcceptedGrows =
-    (shard : ShardId) (list : List Update) (h : History) (later : List Entry) → StandsFor h.start shard list → Lawful (with_entries h later) →
+    (shard : ShardId) (list : List Update) (h : History) (later : List Entry) →
+    StandsFor h.start shard list → Lawful (with_entries h later) →
     (n : ℕ) (s : ShardState) → LastIs (store_after h) shard n s →
     (more : List Update) × (accepted_of shard list (with_entries h later) ≡ accepted_of shard list h ++ more) × OutOf s.upper more
 
@@ -62,8 +65,10 @@ AcceptedGrows =
 -- it the slice from f up to the upper there.
 abbrev pub StepsJoin : Type 0
 StepsJoin =
-    (shard : ShardId) (list : List Update) (h : History) (later : List Entry) → StandsFor h.start shard list → Lawful (with_entries h later) →
-    (n : ℕ) (s : ShardState) → LastIs (store_after h) shard n s → (m : ℕ) (last : ShardState) → LastIs (store_after (with_entries h later)) shard m last →
+    (shard : ShardId) (list : List Update) (h : History) (later : List Entry) →
+    StandsFor h.start shard list → Lawful (with_entries h later) →
+    (n : ℕ) (s : ShardState) → LastIs (store_after h) shard n s →
+    (m : ℕ) (last : ShardState) → LastIs (store_after (with_entries h later)) shard m last →
     (f to : Option ℕ) (rows : List Update) → is_gt (frontier_cmp f s.upper) ≡ false →
     listen_answer (collection_in (accepted_of shard list (with_entries h later)) last) s.upper ≡ step rows to →
     slice_of (accepted_of shard list h) f s.upper ++ rows ≡ slice_of (accepted_of shard list (with_entries h later)) f to

@@ -14,14 +14,16 @@ use Rattle.history_core.specs.Legal.{snapshot_keys, step_keys}
 
 -- whether a call that comes to a store commits a version of the shard
 abbrev pub commits_on : ShardId → Stored → Call → Outcome → Bool
-commits_on shard before (calls.Cas at_shard expected bytes) outcome = took_effect outcome && (same_shard at_shard shard && commits (before.logs shard) expected)
+commits_on shard before (calls.Cas at_shard expected bytes) outcome =
+    took_effect outcome && (same_shard at_shard shard && commits (before.logs shard) expected)
 commits_on _ _ _ _ = false
 
 -- how many of the newest `calls` entries of a client failed
 abbrev pub failed_calls : ℕ → ℕ → List Entry → ℕ
 failed_calls client zero es = 0
 failed_calls client (suc n) [] = 0
-failed_calls client (suc n) (e ∷ es) = if e.client == client then faults_of e.outcome + failed_calls client n es else failed_calls client (suc n) es
+failed_calls client (suc n) (e ∷ es) =
+    if e.client == client then faults_of e.outcome + failed_calls client n es else failed_calls client (suc n) es
 
 -- how many entries of others, since the first of the newest `calls` entries of a client, commit a version of the shard
 abbrev pub foreign_commits : Stored → ShardId → ℕ → ℕ → List Entry → ℕ
