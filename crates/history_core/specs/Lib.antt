@@ -4,7 +4,10 @@ pub mod Discipline
 pub mod Stands
 pub mod Questions
 pub mod Walks
+pub mod WalkViews
+pub mod Accepting
 pub mod Laws
+pub mod Example
 pub mod Spending
 pub mod Answers
 pub mod Placing

@@ -12,7 +12,7 @@ use Rattle.history_core.specs.Histories.{took_effect}
 use Rattle.history_core.specs.Stands.{appended_by}
 
 -- the number of the last version, once a Cas has committed; the bytes of the keys that were set; and a list with the rows that were appended
-pub record Walk : Type 0 where
+pub record Walked : Type 0 where
   pub last : Option ℕ
   pub blobs : PartKey → Option (List ℕ)
   pub rows : List Update
@@ -38,30 +38,30 @@ rows_given blobs shard None n bytes = []
 rows_given blobs shard (Some before) n bytes = appended_by (with_blobs blobs) (version_in shard n bytes)
 
 -- the walk after a Cas that gave its version this number
-abbrev pub after_given : Walk → ShardId → Option ℕ → List ℕ → Option ℕ → Walk
+abbrev pub after_given : Walked → ShardId → Option ℕ → List ℕ → Option ℕ → Walked
 after_given w shard expected bytes None = w
 after_given w shard expected bytes (Some n) = record { last = Some n; blobs = w.blobs; rows = w.rows ++ rows_given w.blobs shard expected n bytes }
 
 -- the walk after a Cas
-abbrev pub after_cas : Walk → ShardId → Option ℕ → List ℕ → Walk
+abbrev pub after_cas : Walked → ShardId → Option ℕ → List ℕ → Walked
 after_cas w shard expected bytes = after_given w shard expected bytes (number_given w.last expected)
 
 -- the walk after a key was set, or deleted
-abbrev pub after_write : Walk → PartKey → Option (List ℕ) → Walk
+abbrev pub after_write : Walked → PartKey → Option (List ℕ) → Walked
 after_write w key bytes = record { last = w.last; blobs = set_at key_cmp w.blobs key bytes; rows = w.rows }
 
 -- the walk after a call that takes effect
-abbrev pub walk_call : Walk → Call → Walk
+abbrev pub walk_call : Walked → Call → Walked
 walk_call w (calls.Cas shard expected bytes) = after_cas w shard expected bytes
 walk_call w (calls.Set key bytes) = after_write w key (Some bytes)
 walk_call w (calls.Delete key) = after_write w key None
 walk_call w _ = w
 
 -- the walk after an entry
-abbrev pub walk_entry : Walk → Entry → Walk
+abbrev pub walk_entry : Walked → Entry → Walked
 walk_entry w e = if took_effect e.outcome then walk_call w e.call else w
 
 -- the walk after entries of which the newest comes first
-abbrev pub walk_back : List Update → List Entry → Walk
+abbrev pub walk_back : List Update → List Entry → Walked
 walk_back list [] = record { last = None; blobs = λ k. None; rows = list }
 walk_back list (e ∷ es) = walk_entry (walk_back list es) e

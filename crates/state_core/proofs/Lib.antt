@@ -6,6 +6,7 @@ pub mod Rules
 pub mod Determined
 pub mod Refused
 pub mod Rising
+pub mod VersionFacts
 pub mod Tokens
 pub mod VersionWriting
 pub mod VersionFields
@@ -18,4 +19,3 @@ pub mod VersionBatchLists
 pub mod VersionSteps
 pub mod VersionTransitions
 pub mod VersionStates
-pub mod VersionFacts
