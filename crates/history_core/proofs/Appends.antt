@@ -30,7 +30,7 @@ use Rattle.history_core.specs.AnswerLaws.{AppendsAccepted}
 use Rattle.history_core.proofs.Prefixes.{lawful_back}
 use Rattle.history_core.proofs.Logs.{end_of-committed}
 use Rattle.history_core.proofs.Entries.{shard_same, lawful_newest, lawful_older}
-use Rattle.history_core.proofs.StateFacts.{state_new}
+use Rattle.history_core.proofs.Chains.{newest_is}
 use Rattle.history_core.proofs.Owners.{CommitBy, CommitsFirst, commit_of}
 use Rattle.history_core.proofs.Bases.{base_of}
 use Rattle.history_core.proofs.Lasts.{last_live}
@@ -102,7 +102,7 @@ append_accepted_at start shard list st e es l k n at to member token expected ne
         let last : IsLast (ever start shard (e ∷ es)) (m.n + 1) =
         subst (λ (g : Log). IsLast g (m.n + 1)) (sym grows) (ap (λ j. j + 1) m.last ∙ sym (end_of-committed (ever start shard es) k.bytes)) in
         let state = subst (λ (s : ShardState). StateIn shard (ever start shard (e ∷ es)) (m.n + 1) s) to_is
-        (subst (λ (g : Log). StateIn shard g (m.n + 1) m.to) (sym grows) (state_new shard (ever start shard es) k.bytes m)) in
+        (subst (λ (g : Log). StateIn shard g (m.n + 1) m.to) (sym grows) (m.step, newest_is shard (ever start shard es) k.bytes m)) in
         let new_rows : appended (replay_back start es) shard e e.call ≡ cons rows =
         appended_grown (replay_back start es) shard e e.call k.expected n k.bytes to (Append member token expected new parts count weight) k.call_is at k.took k.commit written ∙ held in
         record {
