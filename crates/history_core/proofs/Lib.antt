@@ -40,5 +40,6 @@ pub mod Lasts
 pub mod Later
 pub mod Steps
 pub mod Appends
+pub mod Members
 pub mod Committed
 pub mod Answering

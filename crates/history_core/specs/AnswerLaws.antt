@@ -9,14 +9,14 @@ use Rattle.update_core.specs.Collections.{snapshot_answer, listen_answer, conten
 use Rattle.store_core.specs.declared.shards.ShardId.{ShardId}
 use Rattle.store_core.specs.declared.part_keys.PartKey.{PartKey}
 use Rattle.store_core.specs.declared.entries.Entry.{Entry}
-use Rattle.store_core.specs.Histories.{History, store_after, with_entry}
+use Rattle.store_core.specs.Histories.{History, reply, store_after, with_entry}
 use Rattle.store_core.specs.Ports.{with_entries}
 use Rattle.state_core.specs.declared.transitions.Transition.TheVariants.{Append}
 use Rattle.state_core.specs.Lists.{Among}
 use Rattle.state_core.specs.States.{ShardState, keys_of}
 use Rattle.state_core.specs.Steps.{Stands}
 use Rattle.state_core.specs.VersionReading.{version_in}
-use Rattle.history_core.specs.Discipline.{Lawful, Owns, IsCasUnder, GotAs, Hold}
+use Rattle.history_core.specs.Discipline.{Lawful, IsJoin, Owns, IsCasUnder, GotAs, Hold}
 use Rattle.history_core.specs.Stands.{StandsFor, accepted_of, rows_under}
 use Rattle.history_core.specs.Questions.{begun_by, ending_past}
 use Rattle.history_core.specs.Laws.{LastIs}
@@ -82,3 +82,9 @@ AppendsAccepted =
     (to : ShardState) (member token expected : ℕ) (new : Option ℕ) (parts : List PartKey) (count : ℕ) (rows : List Update) →
     version_in shard (n + 1) c.bytes ≡ Some (to, Append member token expected new parts count (weight_of rows)) →
     rows_under (store_after h) parts ≡ cons rows → AcceptedAt list h.start shard rows expected new (placed e (reverse h.trail))
+
+-- The member of a Join that is answered Committed was owned by nobody before.
+abbrev pub MemberNew : Type 0
+MemberNew =
+    (shard : ShardId) (list : List Update) (h : History) (e : Entry) → StandsFor h.start shard list → Lawful (with_entry h e) →
+    (member : ℕ) → IsJoin shard member e.call (reply (store_after h) e) → (client : ℕ) → ¬ Owns (own_of h client) shard member

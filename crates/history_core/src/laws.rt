@@ -4,7 +4,7 @@ ghost use Rattle.std.specs.Ordering.{is_gt};
 ghost use Rattle.update_core.specs.declared.updates.Update.{Update};
 ghost use Rattle.update_core.specs.Frontiers.{frontier_cmp};
 ghost use Rattle.update_core.specs.Updates.{OutOf, slice_of};
-ghost use Rattle.history_core.specs.AnswerLaws.{AcceptedGrows, AppendsAccepted, CommittedOnce, RowsGot, StepGot, StepsJoin};
+ghost use Rattle.history_core.specs.AnswerLaws.{AcceptedGrows, AppendsAccepted, CommittedOnce, MemberNew, RowsGot, StepGot, StepsJoin};
 ghost use Rattle.history_core.specs.Answers.{NewestShown};
 ghost use Rattle.history_core.specs.Laws.{LawfulStandsFor, LeasedPresent, LeasedUnchanged, LawfulPrefix, FloorNeverFalls};
 
@@ -55,4 +55,9 @@ pub fn steps_join()
 /// An append that commits is one that the plain collection accepts at its place, which then has its rows, consolidated.
 pub fn appends_accepted()
     ensures { AppendsAccepted }
+{}
+
+/// A member that joins was nobody's before.
+pub fn member_new()
+    ensures { MemberNew }
 {}
