@@ -41,5 +41,6 @@ pub mod Later
 pub mod Steps
 pub mod Appends
 pub mod Members
+pub mod OneAnswer
 pub mod Committed
 pub mod Answering

@@ -16,13 +16,17 @@ use Rattle.state_core.specs.Lists.{Among}
 use Rattle.state_core.specs.States.{ShardState, keys_of}
 use Rattle.state_core.specs.Steps.{Stands}
 use Rattle.state_core.specs.VersionReading.{version_in}
+use Rattle.history_core.specs.declared.asked.Asked.{Asked}
+use Rattle.history_core.specs.declared.asked.Asked.TheVariants as asks
+use Rattle.history_core.specs.declared.write_answers.WriteAnswer.{WriteAnswer}
+use Rattle.history_core.specs.declared.read_answers.ReadAnswer.{ReadAnswer}
 use Rattle.history_core.specs.Discipline.{Lawful, IsJoin, Owns, IsCasUnder, GotAs, Hold}
 use Rattle.history_core.specs.Stands.{StandsFor, accepted_of, rows_under}
 use Rattle.history_core.specs.Questions.{begun_by, ending_past}
 use Rattle.history_core.specs.Laws.{LastIs}
 use Rattle.history_core.specs.Answers.{own_of, own_past}
 use Rattle.history_core.specs.Placing.{placed, places, OnlyOne, Commits, CommitsUnder}
-use Rattle.history_core.specs.Legal.{collection_in, AcceptedAt}
+use Rattle.history_core.specs.Legal.{collection_in, AcceptedAt, Command, LegalWrite, LegalRead}
 
 -- Where an owned member's token in the last version is the command's and isn't 0, and each own Cas under them is the command's,
 -- exactly one of these committed.
@@ -88,3 +92,21 @@ abbrev pub MemberNew : Type 0
 MemberNew =
     (shard : ShardId) (list : List Update) (h : History) (e : Entry) → StandsFor h.start shard list → Lawful (with_entry h e) →
     (member : ℕ) → IsJoin shard member e.call (reply (store_after h) e) → (client : ℕ) → ¬ Owns (own_of h client) shard member
+
+-- a snapshot or a step of a listen
+abbrev pub IsRead : Asked → Type 0
+IsRead (asks.Snapshot t) = ⊤
+IsRead (asks.Listen as_of) = ⊤
+IsRead asks.Next = ⊤
+IsRead _ = ⊥
+
+-- An append has one legal answer.
+abbrev pub OneAppendAnswer : Type 0
+OneAppendAnswer =
+    (list : List Update) (h : History) (c : Command) (rows : List Update) (expected : ℕ) (new : Option ℕ) →
+    c.asked ≡ asks.Append rows expected new → (a b : WriteAnswer) → LegalWrite list h c a → LegalWrite list h c b → a ≡ b
+
+-- A snapshot and a step of a listen have one legal answer.
+abbrev pub OneReadAnswer : Type 0
+OneReadAnswer =
+    (list : List Update) (h : History) (c : Command) → IsRead c.asked → (a b : ReadAnswer) → LegalRead list h c a → LegalRead list h c b → a ≡ b

@@ -4,7 +4,7 @@ ghost use Rattle.std.specs.Ordering.{is_gt};
 ghost use Rattle.update_core.specs.declared.updates.Update.{Update};
 ghost use Rattle.update_core.specs.Frontiers.{frontier_cmp};
 ghost use Rattle.update_core.specs.Updates.{OutOf, slice_of};
-ghost use Rattle.history_core.specs.AnswerLaws.{AcceptedGrows, AppendsAccepted, CommittedOnce, MemberNew, RowsGot, StepGot, StepsJoin};
+ghost use Rattle.history_core.specs.AnswerLaws.{AcceptedGrows, AppendsAccepted, CommittedOnce, MemberNew, OneAppendAnswer, OneReadAnswer, RowsGot, StepGot, StepsJoin};
 ghost use Rattle.history_core.specs.Answers.{NewestShown};
 ghost use Rattle.history_core.specs.Laws.{LawfulStandsFor, LeasedPresent, LeasedUnchanged, LawfulPrefix, FloorNeverFalls};
 
@@ -60,4 +60,10 @@ pub fn appends_accepted()
 /// A member that joins was nobody's before.
 pub fn member_new()
     ensures { MemberNew }
+{}
+
+/// No two answers to an append are legal over one history, and no two to a snapshot or to a step of a listen.
+pub fn one_answer()
+    ensures append { OneAppendAnswer }
+    ensures read { OneReadAnswer }
 {}
