@@ -42,5 +42,6 @@ pub mod Steps
 pub mod Appends
 pub mod Members
 pub mod OneAnswer
+pub mod Gaining
 pub mod Committed
 pub mod Answering

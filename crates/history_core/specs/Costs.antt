@@ -1,5 +1,5 @@
 -- How many store calls a command makes. Entries go newest first, and the newest is the command's last.
-use Rattle.std.specs.Prelude.{ℕ, zero, suc, ◌+◌, ◌*◌, ◌≤◌, Bool, true, false, List, [], ◌∷◌, length, if◌then◌else◌, ◌==◌, ◌&&◌, Option}
+use Rattle.std.specs.Prelude.{ℕ, zero, suc, ◌+◌, ◌*◌, ◌≤◌, Bool, true, false, List, [], ◌∷◌, ◌++◌, length, if◌then◌else◌, ◌==◌, ◌&&◌, Option}
 use Rattle.store_core.specs.declared.shards.ShardId.{ShardId}
 use Rattle.store_core.specs.declared.calls.Call.{Call}
 use Rattle.store_core.specs.declared.calls.Call.TheVariants as calls
@@ -32,6 +32,12 @@ foreign_commits start shard client (suc n) [] = 0
 foreign_commits start shard client (suc n) (e ∷ es) =
     if e.client == client then foreign_commits start shard client n es
     else ((if commits_on shard (replay_back start es) e.call e.outcome then 1 else 0) + foreign_commits start shard client (suc n) es)
+
+-- how many of these entries, after those that follow, commit a version of the shard
+abbrev pub commits_among : Stored → ShardId → List Entry → List Entry → ℕ
+commits_among start shard [] es = 0
+commits_among start shard (e ∷ others) es =
+    (if commits_on shard (replay_back start (others ++ es)) e.call e.outcome then 1 else 0) + commits_among start shard others es
 
 -- The calls made, with those that are still to be made if no further call fails and no other client commits, are at most a
 -- base and two for each commit of others and each failed call.

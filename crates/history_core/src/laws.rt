@@ -1,5 +1,12 @@
 // Laws of histories, each the contract of a function that does nothing.
-ghost use Rattle.std.specs.Prelude.{◌≡◌, ◌++◌, false, List, Option, ℕ};
+ghost use Rattle.std.specs.Prelude.{◌≡◌, ◌+◌, ◌++◌, ◌∷◌, false, List, Option, ℕ};
+ghost use Rattle.store_core.specs.declared.entries.Entry.{Entry};
+ghost use Rattle.store_core.specs.declared.shards.ShardId.{ShardId};
+ghost use Rattle.store_core.specs.Stores.{Stored};
+ghost use Rattle.store_core.specs.Histories.{faults_of};
+ghost use Rattle.store_core.specs.Ports.{OfOthers};
+ghost use Rattle.history_core.specs.Costs.{commits_among, failed_calls, foreign_commits};
+ghost use Rattle.history_core.specs.Placing.{placed, places};
 ghost use Rattle.std.specs.Ordering.{is_gt};
 ghost use Rattle.update_core.specs.declared.updates.Update.{Update};
 ghost use Rattle.update_core.specs.Frontiers.{frontier_cmp};
@@ -66,4 +73,17 @@ pub fn member_new()
 pub fn one_answer()
     ensures append { OneAppendAnswer }
     ensures read { OneReadAnswer }
+{}
+
+/// What a client's next call, which entries of others may precede, adds to its command: its own entry, a failure where it
+/// failed and, but for the first call, the commits of others since the call before.
+pub fn one_more_call()
+    ensures entries { (client n : ℕ) (e : Entry) (others es : List Entry) → e.client ≡ client → OfOthers client others
+        → places client (n + 1) (e ∷ (others ++ es)) ≡ placed e (others ++ es) ∷ places client n es }
+    ensures failed { (client n : ℕ) (e : Entry) (others es : List Entry) → e.client ≡ client → OfOthers client others
+        → failed_calls client (n + 1) (e ∷ (others ++ es)) ≡ faults_of e.outcome + failed_calls client n es }
+    ensures first { (start : Stored) (shard : ShardId) (client : ℕ) (e : Entry) (others es : List Entry) → e.client ≡ client
+        → foreign_commits start shard client 1 (e ∷ (others ++ es)) ≡ 0 }
+    ensures foreign { (start : Stored) (shard : ShardId) (client n : ℕ) (e : Entry) (others es : List Entry) → e.client ≡ client → OfOthers client others
+        → foreign_commits start shard client (n + 2) (e ∷ (others ++ es)) ≡ commits_among start shard others es + foreign_commits start shard client (n + 1) es }
 {}
