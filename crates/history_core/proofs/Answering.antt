@@ -1,11 +1,10 @@
 -- The laws on which answers rest, over entries that go newest first.
-use Rattle.std.proofs.Common.{◌≡◌, ◌≢◌, ℕ, ◌+◌, ◌<◌, ◌≤◌, List, [], ◌∷◌, ◌⊎◌, inl, inr, refl, arith, subst, sym, ap, ◌∙◌, drop}
+use Rattle.std.proofs.Common.{◌≡◌, ◌≢◌, ℕ, ◌<◌, List, [], ◌∷◌, inl, inr, refl, arith, subst, sym, ap, ◌∙◌, drop}
 use Rattle.std.specs.Prelude.{reverse, ⊤}
 use Rattle.update_core.specs.declared.updates.Update.{Update}
 use Rattle.store_core.specs.declared.shards.ShardId.{ShardId}
 use Rattle.store_core.specs.declared.entries.Entry.{Entry}
-use Rattle.store_core.specs.Stores.{Log, Stored}
-use Rattle.store_core.specs.Histories.{History, store_after}
+use Rattle.store_core.specs.Stores.{Stored}
 use Rattle.store_core.specs.Ports.{Answered}
 use Rattle.store_core.specs.Newest.{replay_back, mine_back}
 use Rattle.store_core.proofs.NewestLaws.{replay-newest, mine-newest}
@@ -13,9 +12,8 @@ use Rattle.state_core.specs.declared.members.Member.{Member}
 use Rattle.state_core.specs.Lists.{Among}
 use Rattle.state_core.specs.States.{ShardState}
 use Rattle.state_core.specs.Steps.{Stands}
-use Rattle.history_core.specs.Histories.{ever}
 use Rattle.history_core.specs.Discipline.{Owns, IsCasUnder, LawfulBack}
-use Rattle.history_core.specs.Stands.{StandsFor, IsLast, StateIn}
+use Rattle.history_core.specs.Stands.{StandsFor}
 use Rattle.history_core.specs.Spending.{commits_under}
 use Rattle.history_core.specs.Laws.{LastIs}
 use Rattle.history_core.specs.Placing.{places, OnlyOne, CommitsUnder}

@@ -1,5 +1,5 @@
 -- An append that commits is accepted by the collection at its place.
-use Rattle.std.proofs.Common.{◌≡◌, ◌&&◌, ℕ, ◌+◌, ◌<◌, ◌≤◌, ◌^◌, Bool, true, false, cond, List, [], ◌∷◌, ◌++◌, ◌⊎◌, inl, inr, refl, arith, subst, sym, ap, ◌∙◌, leb, Some, None, Option}
+use Rattle.std.proofs.Common.{◌≡◌, ℕ, ◌+◌, ◌≤◌, ◌^◌, true, List, ◌∷◌, ◌++◌, ◌⊎◌, inl, inr, refl, arith, subst, sym, ap, ◌∙◌, Some, None, Option}
 use Rattle.std.proofs.lemmas.Bool.{le-leb}
 use Rattle.update_core.specs.declared.updates.Update.{Update}
 use Rattle.std.specs.Prelude.{reverse}
@@ -10,7 +10,6 @@ use Rattle.update_core.specs.Collections.{accepted as append_accepted}
 use Rattle.store_core.specs.declared.shards.ShardId.{ShardId}
 use Rattle.store_core.specs.declared.part_keys.PartKey.{PartKey}
 use Rattle.store_core.specs.declared.calls.Call.{Call}
-use Rattle.store_core.specs.declared.calls.Call.TheVariants as calls
 use Rattle.store_core.specs.declared.entries.Entry.{Entry}
 use Rattle.store_core.specs.Stores.{Log, Stored, committed}
 use Rattle.store_core.specs.Newest.{replay_back, mine_back}
@@ -19,12 +18,12 @@ use Rattle.store_core.proofs.NewestLaws.{newest-first, replay-newest}
 use Rattle.state_core.specs.declared.transitions.Transition.{Transition}
 use Rattle.state_core.specs.declared.transitions.Transition.TheVariants.{Append}
 use Rattle.state_core.specs.States.{ShardState}
-use Rattle.state_core.specs.Steps.{Applies, Appends}
+use Rattle.state_core.specs.Steps.{Applies}
 use Rattle.state_core.specs.VersionReading.{version_in}
-use Rattle.history_core.specs.Histories.{ever, grown, same_shard, took_effect, commits}
+use Rattle.history_core.specs.Histories.{ever, grown}
 use Rattle.history_core.specs.Discipline.{Allows, LawfulBack}
-use Rattle.history_core.specs.Stands.{StandsFor, StateIn, IsLast, accepted, appended, appended_by, rows_under}
-use Rattle.history_core.specs.Placing.{Placed, placed, store_at, Commits}
+use Rattle.history_core.specs.Stands.{StandsFor, StateIn, IsLast, accepted, appended, rows_under}
+use Rattle.history_core.specs.Placing.{placed, Commits}
 use Rattle.history_core.specs.Legal.{AcceptedAt, collection_in}
 use Rattle.history_core.specs.AnswerLaws.{AppendsAccepted}
 use Rattle.history_core.proofs.Prefixes.{lawful_back}

@@ -1,5 +1,5 @@
 -- An owned member's token tells that exactly one entry of the command committed.
-use Rattle.std.proofs.Common.{◌≡◌, ◌≢◌, ◌&&◌, ℕ, zero, suc, ◌+◌, ◌<◌, ◌≤◌, Bool, true, false, cond, List, [], ◌∷◌, ◌⊎◌, inl, inr, refl, arith, subst, sym, ap, ◌∙◌, eqb, Some, None, Option, drop}
+use Rattle.std.proofs.Common.{◌≡◌, ℕ, zero, suc, ◌+◌, ◌<◌, Bool, true, false, List, [], ◌∷◌, ◌⊎◌, inl, inr, refl, arith, subst, sym, ap, ◌∙◌, eqb, Some, None, Option, drop}
 use Rattle.std.proofs.lemmas.Bool.{eqb-true, eq-eqb}
 use Rattle.std.specs.Prelude.{⊤}
 use Rattle.state_core.specs.Lists.{Among}
@@ -16,10 +16,10 @@ use Rattle.state_core.specs.declared.transitions.Transition.TheVariants.{Init, J
 use Rattle.state_core.specs.States.{ShardState}
 use Rattle.state_core.specs.Steps.{Spends, acts_for}
 use Rattle.state_core.specs.VersionReading.{version_in}
-use Rattle.history_core.specs.Histories.{ever, same_shard, commits, took_effect}
+use Rattle.history_core.specs.Histories.{ever, commits}
 use Rattle.history_core.specs.Discipline.{IsJoin, Owns, OwnsSome, SpendsIn, IsCasUnder, Allows, LawfulBack}
 use Rattle.history_core.specs.Spending.{is_spending, is_commit_under, commits_under}
-use Rattle.history_core.specs.Placing.{Placed, placed, places, OnlyOne, Commits, CommitsUnder}
+use Rattle.history_core.specs.Placing.{placed, places, OnlyOne, CommitsUnder}
 use Rattle.history_core.proofs.Logs.{and_true}
 use Rattle.history_core.proofs.Entries.{shard_eq, shard_same, mine_older, mine_newest, lawful_newest, lawful_older}
 use Rattle.history_core.proofs.Owners.{CommitBy, CommitsFirst, commit_of}

@@ -1,20 +1,18 @@
 -- What one more entry of a client adds, after entries of others. Entries go newest first.
-use Rattle.std.proofs.Common.{◌≡◌, ◌≢◌, ℕ, zero, suc, ◌+◌, Bool, true, false, cond, List, [], ◌∷◌, ◌++◌, inl, inr, refl, arith, subst, sym, ap, ◌∙◌, eqb}
+use Rattle.std.proofs.Common.{◌≡◌, ◌≢◌, ℕ, zero, suc, ◌+◌, true, false, cond, List, [], ◌∷◌, ◌++◌, refl, arith, subst, sym, ap, ◌∙◌, eqb}
 use Rattle.std.specs.Prelude.{reverse}
-use Rattle.std.specs.List.{AllByRecursion}
 use Rattle.std.proofs.lemmas.Bool.{eq-eqb, ne_eqb}
-use Rattle.std.proofs.lemmas.List.{reverse-append}
 use Rattle.store_core.specs.declared.shards.ShardId.{ShardId}
 use Rattle.store_core.specs.declared.calls.Call.{Call}
 use Rattle.store_core.specs.declared.replies.Reply.{Reply}
 use Rattle.store_core.specs.declared.entries.Entry.{Entry}
 use Rattle.store_core.specs.Stores.{Stored}
-use Rattle.store_core.specs.Histories.{History, entry_of, reply, store_after, with_entry, faults_of}
-use Rattle.store_core.specs.Ports.{Answered, answered, Gains, OfOthers, with_entries}
+use Rattle.store_core.specs.Histories.{History, entry_of, reply, faults_of}
+use Rattle.store_core.specs.Ports.{answered, Gains, OfOthers, with_entries}
 use Rattle.store_core.specs.Newest.{replay_back, mine_back}
 use Rattle.store_core.proofs.NewestLaws.{newest-first, oldest-last, replay-newest}
 use Rattle.state_core.proofs.ListLemmas.{each_append}
-use Rattle.history_core.specs.Placing.{Placed, placed, places}
+use Rattle.history_core.specs.Placing.{placed, places}
 use Rattle.history_core.specs.Costs.{commits_on, failed_calls, foreign_commits, commits_among}
 use Rattle.history_core.proofs.LawfulLaws.{turned}
 

@@ -3,9 +3,9 @@ use Rattle.std.proofs.Common.{◌≡◌, ◌&&◌, ℕ, suc, ◌<◌, ◌≤◌,
 use Rattle.std.proofs.lemmas.Bool.Decides.{leb_tells}
 use Rattle.update_core.specs.declared.rows.Row.{Row}
 use Rattle.update_core.specs.declared.updates.Update.{Update}
-use Rattle.update_core.specs.Frontiers.{covers, is_from}
+use Rattle.update_core.specs.Frontiers.{covers}
 use Rattle.update_core.specs.Updates.{sum_of, slice_of}
-use Rattle.update_core.specs.Collections.{Collection as PlainCollection, SnapshotAnswer, content, early, late, snapshot_answer, ListenAnswer, behind, ended, quiet, step, listen_answer, is_closed, is_past}
+use Rattle.update_core.specs.Collections.{Collection as PlainCollection, content, early, late, snapshot_answer, ListenAnswer, behind, ended, quiet, step, listen_answer, is_closed}
 use Rattle.state_core.proofs.ListLemmas.{bool_cases}
 use Rattle.state_core.specs.States.{keys_of}
 use Rattle.history_core.specs.Discipline.{GotAs, Hold}

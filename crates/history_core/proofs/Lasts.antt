@@ -7,13 +7,13 @@ use Rattle.store_core.specs.declared.calls.Call.TheVariants as calls
 use Rattle.store_core.specs.declared.outcomes.Outcome.{Outcome}
 use Rattle.store_core.specs.declared.outcomes.Outcome.TheVariants.{Took, FailedTook, FailedLost}
 use Rattle.store_core.specs.declared.entries.Entry.{Entry}
-use Rattle.store_core.specs.Stores.{Log, Stored}
+use Rattle.store_core.specs.Stores.{Stored}
 use Rattle.store_core.specs.Histories.{after_outcome}
 use Rattle.store_core.specs.Newest.{replay_back, mine_back}
 use Rattle.state_core.specs.States.{ShardState}
 use Rattle.history_core.specs.Histories.{ever, Shows}
 use Rattle.history_core.specs.Discipline.{ShowsState, LawfulBack}
-use Rattle.history_core.specs.Stands.{StandsFor, IsLast, StateIn, StateAt, end_of}
+use Rattle.history_core.specs.Stands.{StandsFor, IsLast, StateIn, end_of}
 use Rattle.history_core.specs.Laws.{LastIs}
 use Rattle.history_core.proofs.Versions.{live, shows_ever}
 use Rattle.history_core.proofs.Chains.{version_is}

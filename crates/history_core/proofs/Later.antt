@@ -1,5 +1,5 @@
 -- What is accepted later lies past the upper.
-use Rattle.std.proofs.Common.{◌≡◌, ℕ, ◌+◌, ◌≤◌, Bool, true, false, cond, List, [], ◌∷◌, ◌++◌, inl, inr, refl, arith, subst, sym, ap, ◌∙◌, Some, None, Option}
+use Rattle.std.proofs.Common.{◌≡◌, ℕ, ◌+◌, ◌≤◌, false, cond, List, [], ◌∷◌, ◌++◌, inl, inr, arith, subst, sym, ap, ◌∙◌, Some}
 use Rattle.std.specs.List.{AllByRecursion}
 use Rattle.std.proofs.lemmas.List.{append_assoc}
 use Rattle.update_core.specs.declared.updates.Update.{Update}
@@ -7,7 +7,7 @@ use Rattle.update_core.specs.Frontiers.{covers}
 use Rattle.update_core.specs.Updates.{OutOf}
 use Rattle.store_core.specs.declared.shards.ShardId.{ShardId}
 use Rattle.store_core.specs.declared.entries.Entry.{Entry}
-use Rattle.store_core.specs.Stores.{Stored, no_log}
+use Rattle.store_core.specs.Stores.{Stored}
 use Rattle.store_core.specs.Ports.{Answered}
 use Rattle.store_core.specs.Newest.{replay_back, mine_back}
 use Rattle.state_core.specs.declared.transitions.Transition.{Transition}
@@ -22,7 +22,7 @@ use Rattle.history_core.specs.Discipline.{LawfulBack}
 use Rattle.history_core.specs.Stands.{StateIn, IsLast, end_of, appended_by, appended, accepted}
 use Rattle.history_core.proofs.Entries.{lawful_older}
 use Rattle.history_core.proofs.Turns.{version_ever_on}
-use Rattle.history_core.proofs.Tracks.{Track, HasState, EndsAt, last_one, Sound, Grown, Move, still, cuts, begins, grows, Moved}
+use Rattle.history_core.proofs.Tracks.{Track, HasState, EndsAt, last_one, Sound, Move, still, cuts, begins, grows, Moved}
 use Rattle.history_core.proofs.TrackPresence.{PresentOn, added_there}
 use Rattle.history_core.proofs.TrackContent.{ContainedOn, content_made}
 use Rattle.history_core.proofs.LogTracks.{ever_track, Lives, sound_at, moved_by}

@@ -1,12 +1,12 @@
 -- A member that joins is new.
-use Rattle.std.proofs.Common.{◌≡◌, ℕ, ◌+◌, ◌<◌, ◌≤◌, List, [], ◌∷◌, ◌⊎◌, inl, inr, refl, arith, subst, sym, ap, ◌∙◌, Some, None, Option}
+use Rattle.std.proofs.Common.{◌≡◌, ℕ, ◌+◌, List, ◌∷◌, ◌⊎◌, inl, inr, arith, subst, ap, Some, Option}
 use Rattle.std.specs.Prelude.{reverse}
 use Rattle.update_core.specs.declared.updates.Update.{Update}
 use Rattle.store_core.specs.declared.shards.ShardId.{ShardId}
 use Rattle.store_core.specs.declared.calls.Call.{Call}
 use Rattle.store_core.specs.declared.entries.Entry.{Entry}
 use Rattle.store_core.specs.Stores.{Stored, next_number}
-use Rattle.store_core.specs.Histories.{reply, store_after, with_entry}
+use Rattle.store_core.specs.Histories.{reply, with_entry}
 use Rattle.store_core.specs.Ports.{Answered}
 use Rattle.store_core.specs.Newest.{replay_back, mine_back}
 use Rattle.store_core.proofs.NewestLaws.{newest-first, replay-newest, mine-newest}

@@ -1,10 +1,10 @@
 -- A command that changes nothing, and an append, have one legal answer.
-use Rattle.std.proofs.Common.{◌≡◌, ℕ, ◌+◌, List, [], ◌∷◌, ◌⊎◌, inl, inr, refl, arith, subst, sym, ap, ◌∙◌, Some, None, Option}
-use Rattle.std.specs.Prelude.{reverse, IsSomeAnd, ⊤}
+use Rattle.std.proofs.Common.{◌≡◌, ℕ, List, [], ◌∷◌, ◌⊎◌, inl, inr, refl, subst, sym, ap, ◌∙◌, Some, None, Option}
+use Rattle.std.specs.Prelude.{reverse, IsSomeAnd}
 use Rattle.update_core.specs.declared.updates.Update.{Update}
 use Rattle.update_core.specs.Frontiers.{after}
 use Rattle.update_core.specs.Updates.{weight_of}
-use Rattle.update_core.specs.Collections.{Collection as PlainCollection, AppendAnswer, append_answer, accepted as append_accepted, mismatch, heavy, SnapshotAnswer, snapshot_answer, content, early, late, ListenAnswer, listen_answer, behind, ended, quiet, step}
+use Rattle.update_core.specs.Collections.{Collection as PlainCollection, AppendAnswer, append_answer, mismatch, heavy, SnapshotAnswer, snapshot_answer, content, early, late, ListenAnswer, listen_answer, behind, ended, quiet, step}
 use Rattle.store_core.specs.declared.shards.ShardId.{ShardId}
 use Rattle.store_core.specs.declared.entries.Entry.{Entry}
 use Rattle.store_core.specs.Stores.{Stored}
@@ -18,9 +18,8 @@ use Rattle.history_core.specs.declared.write_answers.WriteAnswer.TheVariants as 
 use Rattle.history_core.specs.declared.read_answers.ReadAnswer.{ReadAnswer}
 use Rattle.history_core.specs.declared.read_answers.ReadAnswer.TheVariants as reads
 use Rattle.history_core.specs.Stands.{accepted}
-use Rattle.history_core.specs.Laws.{LastIs}
-use Rattle.history_core.specs.Placing.{Placed, store_at, OnlyOne, Commits, IsAnsweredScan, AtLastScan}
-use Rattle.history_core.specs.Legal.{Command, entries_of, collection_in, CollectionIs, AtLast, HasMember, AcceptedAt, AnswersAppend, Declined, LegalOfWriter, LegalWriteAt, LegalStep, LegalOfReader, LegalReadAt}
+use Rattle.history_core.specs.Placing.{Placed, store_at, OnlyOne, Commits, AtLastScan}
+use Rattle.history_core.specs.Legal.{entries_of, collection_in, CollectionIs, AtLast, HasMember, AcceptedAt, AnswersAppend, Declined, LegalOfWriter, LegalWriteAt, LegalStep, LegalOfReader, LegalReadAt}
 use Rattle.history_core.specs.AnswerLaws.{IsRead, OneAppendAnswer, OneReadAnswer}
 use Rattle.history_core.proofs.StateFacts.{last_one}
 

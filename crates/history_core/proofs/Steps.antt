@@ -1,14 +1,12 @@
 -- The steps of one listen are one slice.
-use Rattle.std.proofs.Common.{◌≡◌, ℕ, true, false, List, ◌++◌, refl, arith, subst, sym, ap, ◌∙◌, Some, None, Option}
+use Rattle.std.proofs.Common.{◌≡◌, ℕ, true, false, ◌++◌, refl, arith, subst, sym, ap, ◌∙◌, Some, None, Option}
 use Rattle.std.specs.Prelude.{reverse}
 use Rattle.std.proofs.lemmas.Bool.Decides.{nat_tests}
 use Rattle.std.specs.Ordering.{is_gt}
-use Rattle.update_core.specs.declared.updates.Update.{Update}
 use Rattle.update_core.specs.Frontiers.{covers, frontier_cmp}
-use Rattle.update_core.specs.Updates.{slice_of, OutOf}
+use Rattle.update_core.specs.Updates.{slice_of}
 use Rattle.update_core.proofs.SliceLaws.{slices_join}
 use Rattle.store_core.specs.Stores.{Stored}
-use Rattle.store_core.specs.Histories.{store_after}
 use Rattle.store_core.specs.Ports.{with_entries}
 use Rattle.store_core.proofs.NewestLaws.{replay-newest}
 use Rattle.history_core.specs.Stands.{accepted, accepted_of}

@@ -14,7 +14,6 @@ use Rattle.store_core.specs.Stores.{Stored}
 use Rattle.store_core.specs.Histories.{History}
 use Rattle.store_core.specs.Newest.{replay_back}
 use Rattle.state_core.specs.declared.kinds.Kind.TheVariants.{Writer, Reader}
-use Rattle.state_core.specs.declared.members.Member.{Member}
 use Rattle.state_core.specs.declared.transitions.Transition.TheVariants.{Join, Leave, Renew, Advance}
 use Rattle.state_core.specs.Lists.{Among}
 use Rattle.state_core.specs.States.{ShardState, keys_of}
@@ -28,7 +27,7 @@ use Rattle.history_core.specs.declared.read_answers.ReadAnswer.TheVariants as re
 use Rattle.history_core.specs.Stands.{accepted}
 use Rattle.history_core.specs.Questions.{begun_by, ending_past}
 use Rattle.history_core.specs.Laws.{LastIs}
-use Rattle.history_core.specs.Placing.{Placed, placed, places, store_at, OnlyOne, Commits, CommittedAs, AtLastScan, GotSinceScan}
+use Rattle.history_core.specs.Placing.{Placed, places, store_at, OnlyOne, Commits, CommittedAs, AtLastScan, GotSinceScan}
 
 -- a client's command: its machine's shard and member, the token drawn, the listen's frontier at its begin, what it asked, and
 -- how many of the client's newest entries are its own

@@ -1,5 +1,5 @@
 -- The entries of one command, each at its place in a history. Entries go newest first.
-use Rattle.std.specs.Prelude.{◌≡◌, ℕ, ◌+◌, zero, suc, true, List, [], ◌∷◌, Option, Some, ◌==◌, if◌then◌else◌, ◌⊎◌}
+use Rattle.std.specs.Prelude.{◌≡◌, ℕ, zero, suc, true, List, [], ◌∷◌, Option, Some, ◌==◌, if◌then◌else◌, ◌⊎◌}
 use Rattle.store_core.specs.declared.shards.ShardId.{ShardId}
 use Rattle.store_core.specs.declared.part_keys.PartKey.{PartKey}
 use Rattle.store_core.specs.declared.calls.Call.TheVariants as calls

@@ -1,4 +1,4 @@
-use Rattle.std.proofs.Common.{◌≡◌, ℕ, ◌+◌, suc, arith, subst, sym, List, ◌∷◌, ◌++◌}
+use Rattle.std.proofs.Common.{◌≡◌, ℕ, ◌+◌, suc, arith, subst, ◌∷◌, ◌++◌}
 use Rattle.store_core.specs.Histories.{faults_of}
 use Rattle.history_core.specs.Placing.{placed, places}
 use Rattle.history_core.specs.Costs.{commits_among, failed_calls, foreign_commits}
