@@ -17,8 +17,9 @@ use Rattle.state_core.specs.States.{ShardState}
 use Rattle.state_core.specs.VersionReading.{version_in}
 use Rattle.state_core.proofs.ListLemmas.{bool_cases, each_among}
 use Rattle.history_core.specs.Discipline.{OwnLawful, LawfulBack, Lawful, JoinsAs, SpendsIn, TakesIn}
-use Rattle.history_core.specs.Example.{the_shard, part_of, seven_at_1, eight_at_6, part_seven, part_eight, part_both, state_0, state_1, state_2, state_3, state_4, state_5, step_1, step_2, step_3, step_4, step_5, ExampleBytes, example_back, example}
+use Rattle.history_core.specs.Example.{the_shard, part_of, seven_at_1, eight_at_6, part_seven, part_eight, part_both, state_0, state_1, state_2, state_3, state_4, state_5, step_1, step_2, step_3, step_4, step_5, Texts, own_texts, example_back, example_with, example}
 use Rattle.history_core.proofs.ExampleStates.{two_keys, applies_1, applies_2, applies_3, applies_4, applies_5}
+use Rattle.history_core.proofs.ExampleVersions.{Reads, own_reads}
 use Rattle.history_core.proofs.ExampleParts.{is_seven, is_eight, is_both, reads_seven, reads_eight, reads_both}
 use Rattle.history_core.specs.Stands.{StandsFor, accepted_of}
 use Rattle.history_core.proofs.LawfulLaws.{lawful_law}
@@ -60,21 +61,21 @@ takes_of o s x k is h = subst (λ (v : Option (ShardState × Transition)). Takes
 cons_both : IsCons (moved (seven_at_1 ∷ eight_at_6 ∷ []) 0) (seven_at_1 ∷ eight_at_6 ∷ [])
 cons_both = record { rising = is_both.rising; nonzero = is_both.nonzero; same = λ k. refl }
 
-module _ (b : ExampleBytes) where
-  writer_joins : JoinsAs (version_in the_shard 1 b.bytes_1) 0
-  writer_joins = joins_by (version_in the_shard 1 b.bytes_1) state_1 step_1 0 b.reads_1 refl
+module _ (t : Texts) (b : Reads t) where
+  writer_joins : JoinsAs (version_in the_shard 1 t.bytes_1) 0
+  writer_joins = joins_by (version_in the_shard 1 t.bytes_1) state_1 step_1 0 b.reads_1 refl
 
-  compactor_joins : JoinsAs (version_in the_shard 2 b.bytes_2) 1
-  compactor_joins = joins_by (version_in the_shard 2 b.bytes_2) state_2 step_2 1 b.reads_2 refl
+  compactor_joins : JoinsAs (version_in the_shard 2 t.bytes_2) 1
+  compactor_joins = joins_by (version_in the_shard 2 t.bytes_2) state_2 step_2 1 b.reads_2 refl
 
   -- the writer
-  lawful_0 : OwnLawful (mine_back empty_store (example_back b) 0)
+  lawful_0 : OwnLawful (mine_back empty_store (example_back t) 0)
   lawful_0 = (
     record {
       from = state_3;
       to = state_4;
       step = step_4;
-      shown = (b.bytes_3, step_3, inr (inl (refl, refl, refl)), b.reads_3);
+      shown = (t.bytes_3, step_3, inr (inl (refl, refl, refl)), b.reads_3);
       written = b.reads_4;
       applies = applies_4;
       owned = inr (inr (inr (inr (inl (refl, writer_joins)))));
@@ -91,12 +92,12 @@ module _ (b : ExampleBytes) where
       record {
         owned = inr (inr (inr (inl (refl, writer_joins))));
         fresh = λ h. elim h [
-          | inl a ↦ one_two (spends_by (version_in the_shard 3 b.bytes_3) state_3 step_3 0 2 b.reads_3 a.1).1
+          | inl a ↦ one_two (spends_by (version_in the_shard 3 t.bytes_3) state_3 step_3 0 2 b.reads_3 a.1).1
           | inr c ↦ elim c [
             | inl a ↦ a
             | inr d ↦ elim d [
               | inl a ↦ a
-              | inr f ↦ elim f [ inl a ↦ spends_by (version_in the_shard 1 b.bytes_1) state_1 step_1 0 2 b.reads_1 a.1 | inr g ↦ elim g [ inl a ↦ a | inr k ↦ k ] ]
+              | inr f ↦ elim f [ inl a ↦ spends_by (version_in the_shard 1 t.bytes_1) state_1 step_1 0 2 b.reads_1 a.1 | inr g ↦ elim g [ inl a ↦ a | inr k ↦ k ] ]
             ]
           ]
         ];
@@ -107,7 +108,7 @@ module _ (b : ExampleBytes) where
           from = state_2;
           to = state_3;
           step = step_3;
-          shown = (b.bytes_2, step_2, inl (refl, inl (refl, refl)), b.reads_2);
+          shown = (t.bytes_2, step_2, inl (refl, inl (refl, refl)), b.reads_2);
           written = b.reads_3;
           applies = applies_3;
           owned = inr (inr (inl (refl, writer_joins)));
@@ -125,7 +126,7 @@ module _ (b : ExampleBytes) where
           (
             record {
               owned = inl (refl, writer_joins);
-              fresh = λ h. elim h [ inl a ↦ spends_by (version_in the_shard 1 b.bytes_1) state_1 step_1 0 1 b.reads_1 a.1 | inr c ↦ elim c [ inl a ↦ a | inr k ↦ k ] ];
+              fresh = λ h. elim h [ inl a ↦ spends_by (version_in the_shard 1 t.bytes_1) state_1 step_1 0 1 b.reads_1 a.1 | inr c ↦ elim c [ inl a ↦ a | inr k ↦ k ] ];
               same = (tt, (tt, tt));
             },
             (
@@ -133,7 +134,7 @@ module _ (b : ExampleBytes) where
                 from = state_0;
                 to = state_1;
                 step = step_1;
-                shown = (b.bytes_0, Init, inl (refl, refl, refl), b.reads_0);
+                shown = (t.bytes_0, Init, inl (refl, refl, refl), b.reads_0);
                 written = b.reads_1;
                 applies = applies_1;
                 owned = tt;
@@ -148,13 +149,13 @@ module _ (b : ExampleBytes) where
   )
 
   -- the compactor
-  lawful_1 : OwnLawful (mine_back empty_store (example_back b) 1)
+  lawful_1 : OwnLawful (mine_back empty_store (example_back t) 1)
   lawful_1 = (
     record {
       from = state_4;
       to = state_5;
       step = step_5;
-      shown = (b.bytes_4, step_4, inr (inr (inr (inl (refl, inr (inl (refl, refl)))))), b.reads_4);
+      shown = (t.bytes_4, step_4, inr (inr (inr (inl (refl, inr (inl (refl, refl)))))), b.reads_4);
       written = b.reads_5;
       applies = applies_5;
       owned = inr (inr (inr (inr (inl (refl, compactor_joins)))));
@@ -184,7 +185,7 @@ module _ (b : ExampleBytes) where
             | inl a ↦ a
             | inr d ↦ elim d [
               | inl a ↦ a
-              | inr f ↦ elim f [ inl a ↦ spends_by (version_in the_shard 2 b.bytes_2) state_2 step_2 1 1 b.reads_2 a.1 | inr g ↦ elim g [ inl a ↦ a | inr k ↦ k ] ]
+              | inr f ↦ elim f [ inl a ↦ spends_by (version_in the_shard 2 t.bytes_2) state_2 step_2 1 1 b.reads_2 a.1 | inr g ↦ elim g [ inl a ↦ a | inr k ↦ k ] ]
             ]
           ]
         ];
@@ -201,7 +202,7 @@ module _ (b : ExampleBytes) where
                 from = state_1;
                 to = state_2;
                 step = step_2;
-                shown = (b.bytes_1, step_1, inl (refl, refl, refl), b.reads_1);
+                shown = (t.bytes_1, step_1, inl (refl, refl, refl), b.reads_1);
                 written = b.reads_2;
                 applies = applies_2;
                 owned = tt;
@@ -216,7 +217,7 @@ module _ (b : ExampleBytes) where
   )
 
   -- the collector
-  lawful_2 : OwnLawful (mine_back empty_store (example_back b) 2)
+  lawful_2 : OwnLawful (mine_back empty_store (example_back t) 2)
   lawful_2 = (
     inr (inr (inl (
       refl,
@@ -226,15 +227,15 @@ module _ (b : ExampleBytes) where
         (step_5, b.reads_5),
         omega arith,
         (
-          (λ lt k h. absurd (takes_of (version_in the_shard 0 b.bytes_0) state_0 Init k b.reads_0 h)),
+          (λ lt k h. absurd (takes_of (version_in the_shard 0 t.bytes_0) state_0 Init k b.reads_0 h)),
           (
-            (λ lt k h. absurd (takes_of (version_in the_shard 1 b.bytes_1) state_1 step_1 k b.reads_1 h)),
+            (λ lt k h. absurd (takes_of (version_in the_shard 1 t.bytes_1) state_1 step_1 k b.reads_1 h)),
             (
-              (λ lt k h. absurd (takes_of (version_in the_shard 2 b.bytes_2) state_2 step_2 k b.reads_2 h)),
+              (λ lt k h. absurd (takes_of (version_in the_shard 2 t.bytes_2) state_2 step_2 k b.reads_2 h)),
               (
-                (λ lt k h. absurd (takes_of (version_in the_shard 3 b.bytes_3) state_3 step_3 k b.reads_3 h)),
+                (λ lt k h. absurd (takes_of (version_in the_shard 3 t.bytes_3) state_3 step_3 k b.reads_3 h)),
                 (
-                  (λ lt k h. absurd (takes_of (version_in the_shard 4 b.bytes_4) state_4 step_4 k b.reads_4 h)),
+                  (λ lt k h. absurd (takes_of (version_in the_shard 4 t.bytes_4) state_4 step_4 k b.reads_4 h)),
                   ((λ lt k h. absurd (omega arith)), tt),
                 ),
               ),
@@ -249,7 +250,7 @@ module _ (b : ExampleBytes) where
         (
           state_5,
           (step_5, b.reads_5),
-          inr (inr (inr (inr (inr (inl (omega arith, takes_by (version_in the_shard 5 b.bytes_5) state_5 step_5 (part_of 0 2) b.reads_5 (inr (inl refl)))))))),
+          inr (inr (inr (inr (inr (inl (omega arith, takes_by (version_in the_shard 5 t.bytes_5) state_5 step_5 (part_of 0 2) b.reads_5 (inr (inl refl)))))))),
         ),
       )),
       (
@@ -258,7 +259,7 @@ module _ (b : ExampleBytes) where
           (
             state_5,
             (step_5, b.reads_5),
-            inr (inr (inr (inr (inr (inl (omega arith, takes_by (version_in the_shard 5 b.bytes_5) state_5 step_5 (part_of 0 1) b.reads_5 (inl refl))))))),
+            inr (inr (inr (inr (inr (inl (omega arith, takes_by (version_in the_shard 5 t.bytes_5) state_5 step_5 (part_of 0 1) b.reads_5 (inl refl))))))),
           ),
         ),
         (tt, tt),
@@ -266,8 +267,8 @@ module _ (b : ExampleBytes) where
     ),
   )
 
-  example_lawful_back : LawfulBack empty_store (example_back b)
-  example_lawful_back = lawful_of empty_store (example_back b) (
+  example_lawful_back : LawfulBack empty_store (example_back t)
+  example_lawful_back = lawful_of empty_store (example_back t) (
     lawful_2,
     (
       lawful_2,
@@ -288,15 +289,24 @@ module _ (b : ExampleBytes) where
   )
 
   -- every client keeps the discipline
-  pub example_lawful : Lawful (example b)
-  example_lawful c = subst OwnLawful (sym (mine-newest (example b) c)) (example_lawful_back c)
+  pub with_lawful : Lawful (example_with t)
+  with_lawful c = subst OwnLawful (sym (mine-newest (example_with t) c)) (example_lawful_back c)
 
--- it accepts the rows of both appends
-pub example_accepts : (b : ExampleBytes) → accepted_of the_shard [] (example b) ≡ seven_at_1 ∷ eight_at_6 ∷ []
-example_accepts b = rw (b.reads_1, b.reads_2, b.reads_3, b.reads_4, b.reads_5, reads_seven, reads_eight)
+  -- it accepts the rows of both appends
+  pub with_accepts : accepted_of the_shard [] (example_with t) ≡ seven_at_1 ∷ eight_at_6 ∷ []
+  with_accepts = rw (b.reads_1, b.reads_2, b.reads_3, b.reads_4, b.reads_5, reads_seven, reads_eight)
 
--- and the store at its end stands for them
-pub example_stands : (b : ExampleBytes) → StandsFor (store_after (example b)) the_shard (seven_at_1 ∷ eight_at_6 ∷ [])
-example_stands b =
-    subst (StandsFor (store_after (example b)) the_shard) (example_accepts b)
-    (lawful_law the_shard [] (example b) (inl (record { no_version = refl; no_update = refl; no_key = λ k e. refl })) (example_lawful b))
+  -- and the store at its end stands for them
+  pub with_stands : StandsFor (store_after (example_with t)) the_shard (seven_at_1 ∷ eight_at_6 ∷ [])
+  with_stands =
+      subst (StandsFor (store_after (example_with t)) the_shard) with_accepts
+      (lawful_law the_shard [] (example_with t) (inl (record { no_version = refl; no_update = refl; no_key = λ k e. refl })) with_lawful)
+
+pub example_lawful : Lawful example
+example_lawful = with_lawful own_texts own_reads
+
+pub example_accepts : accepted_of the_shard [] example ≡ seven_at_1 ∷ eight_at_6 ∷ []
+example_accepts = with_accepts own_texts own_reads
+
+pub example_stands : StandsFor (store_after example) the_shard (seven_at_1 ∷ eight_at_6 ∷ [])
+example_stands = with_stands own_texts own_reads

@@ -5,7 +5,7 @@ use Rattle.state_core.specs.States.{IsState}
 use Rattle.state_core.specs.Steps.{Applies}
 use Rattle.history_core.specs.Example.{part_of, state_0, state_1, state_2, state_3, state_4, state_5, step_1, step_2, step_3, step_4, step_5}
 
-is_state_0 : IsState state_0
+pub is_state_0 : IsState state_0
 is_state_0 = record {
   few = omega arith;
   rising = tt;
@@ -24,7 +24,7 @@ is_state_0 = record {
   distinct = tt;
 }
 
-is_state_1 : IsState state_1
+pub is_state_1 : IsState state_1
 is_state_1 = record {
   few = omega arith;
   rising = tt;
@@ -43,7 +43,7 @@ is_state_1 = record {
   distinct = tt;
 }
 
-is_state_2 : IsState state_2
+pub is_state_2 : IsState state_2
 is_state_2 = record {
   few = omega arith;
   rising = (omega arith, tt);
@@ -62,7 +62,7 @@ is_state_2 = record {
   distinct = tt;
 }
 
-is_state_3 : IsState state_3
+pub is_state_3 : IsState state_3
 is_state_3 = record {
   few = omega arith;
   rising = (omega arith, tt);
@@ -85,7 +85,7 @@ is_state_3 = record {
 pub two_keys : part_of 0 1 ≡ part_of 0 2 → ⊥
 two_keys e = let t : ◌≡◌ {A = ℕ} 1 2 = ap (λ (k : PartKey). k.token) e in omega arith
 
-is_state_4 : IsState state_4
+pub is_state_4 : IsState state_4
 is_state_4 = record {
   few = omega arith;
   rising = (omega arith, tt);
@@ -107,7 +107,7 @@ is_state_4 = record {
   distinct = ((λ h. elim h [ inl e ↦ two_keys e | inr f ↦ f ]), ((λ h. h), tt));
 }
 
-is_state_5 : IsState state_5
+pub is_state_5 : IsState state_5
 is_state_5 = record {
   few = omega arith;
   rising = (omega arith, tt);

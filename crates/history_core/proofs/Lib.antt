@@ -31,10 +31,12 @@ pub mod LawfulLaws
 pub mod AcceptedLaws
 pub mod ExampleStates
 pub mod ExampleParts
+pub mod ExampleVersions
 pub mod ExampleLawful
 pub mod AnswerLaws
 pub mod GotLaws
 pub mod SpentLaws
+pub mod LastingLaws
 pub mod GotRows
 pub mod Lasts
 pub mod Later

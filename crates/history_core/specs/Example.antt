@@ -1,5 +1,5 @@
 -- A history at work: a writer and a compactor join, two appends, a merge and a collection.
-use Rattle.std.specs.Prelude.{◌≡◌, ℕ, pos, List, [], ◌∷◌, Some, None, reverse}
+use Rattle.std.specs.Prelude.{ℕ, pos, List, [], ◌∷◌, Some, None, reverse}
 use Rattle.update_core.specs.declared.updates.Update.{Update}
 use Rattle.store_core.specs.declared.shards.ShardId.{ShardId}
 use Rattle.store_core.specs.declared.part_keys.PartKey.{PartKey}
@@ -17,7 +17,7 @@ use Rattle.state_core.specs.declared.transitions.Transition.{Transition}
 use Rattle.state_core.specs.declared.transitions.Transition.TheVariants.{Init, Join, Append, Merge}
 use Rattle.state_core.specs.States.{ShardState}
 use Rattle.state_core.specs.Steps.{init}
-use Rattle.state_core.specs.VersionReading.{version_in}
+use Rattle.state_core.specs.Versions.{version_spelling}
 
 abbrev pub the_shard : ShardId
 the_shard = record { 0 = 1 }
@@ -82,20 +82,25 @@ step_4 = Append 0 2 5 (Some 10) (part_of 0 2 ∷ []) 1 1
 abbrev pub step_5 : Transition
 step_5 = Merge 1 1 (batch_from 0 5 (part_of 0 1) 1) (batch_from 5 10 (part_of 0 2) 1) (batch_from 0 10 (part_of 1 1) 2)
 
--- the bytes of the versions
-pub record ExampleBytes : Type 0 where
+-- bytes of six versions
+pub record Texts : Type 0 where
   pub bytes_0 : List ℕ
   pub bytes_1 : List ℕ
   pub bytes_2 : List ℕ
   pub bytes_3 : List ℕ
   pub bytes_4 : List ℕ
   pub bytes_5 : List ℕ
-  pub reads_0 : version_in the_shard 0 bytes_0 ≡ Some (state_0, Init)
-  pub reads_1 : version_in the_shard 1 bytes_1 ≡ Some (state_1, step_1)
-  pub reads_2 : version_in the_shard 2 bytes_2 ≡ Some (state_2, step_2)
-  pub reads_3 : version_in the_shard 3 bytes_3 ≡ Some (state_3, step_3)
-  pub reads_4 : version_in the_shard 4 bytes_4 ≡ Some (state_4, step_4)
-  pub reads_5 : version_in the_shard 5 bytes_5 ≡ Some (state_5, step_5)
+
+-- the bytes that spell the states and transitions
+unfoldable pub own_texts : Texts
+own_texts = record {
+  bytes_0 = version_spelling state_0 Init;
+  bytes_1 = version_spelling state_1 step_1;
+  bytes_2 = version_spelling state_2 step_2;
+  bytes_3 = version_spelling state_3 step_3;
+  bytes_4 = version_spelling state_4 step_4;
+  bytes_5 = version_spelling state_5 step_5;
+}
 
 -- the bytes of the parts
 abbrev pub part_seven : List ℕ
@@ -111,28 +116,32 @@ abbrev pub did : ℕ → Call → Entry
 did client call = record { client = client; call = call; outcome = Took }
 
 -- newest first: a writer (client 0) and a compactor (client 1) join; two appends; a merge; a collection (client 2)
-abbrev pub example_back : ExampleBytes → List Entry
-example_back b =
+abbrev pub example_back : Texts → List Entry
+example_back t =
     did 2 (calls.Truncate the_shard 5)
     ∷ did 2 (calls.Delete (part_of 0 2))
     ∷ did 2 (calls.Delete (part_of 0 1))
     ∷ did 2 (calls.Scan the_shard 0)
-    ∷ did 1 (calls.Cas the_shard (Some 4) b.bytes_5)
+    ∷ did 1 (calls.Cas the_shard (Some 4) t.bytes_5)
     ∷ did 1 (calls.Set (part_of 1 1) part_both)
     ∷ did 1 (calls.Get (part_of 0 2))
     ∷ did 1 (calls.Get (part_of 0 1))
     ∷ did 1 (calls.Scan the_shard 3)
-    ∷ did 0 (calls.Cas the_shard (Some 3) b.bytes_4)
+    ∷ did 0 (calls.Cas the_shard (Some 3) t.bytes_4)
     ∷ did 0 (calls.Set (part_of 0 2) part_eight)
-    ∷ did 0 (calls.Cas the_shard (Some 2) b.bytes_3)
+    ∷ did 0 (calls.Cas the_shard (Some 2) t.bytes_3)
     ∷ did 0 (calls.Scan the_shard 2)
     ∷ did 0 (calls.Set (part_of 0 1) part_seven)
-    ∷ did 1 (calls.Cas the_shard (Some 1) b.bytes_2)
+    ∷ did 1 (calls.Cas the_shard (Some 1) t.bytes_2)
     ∷ did 1 (calls.Head the_shard)
-    ∷ did 0 (calls.Cas the_shard (Some 0) b.bytes_1)
-    ∷ did 0 (calls.Cas the_shard None b.bytes_0)
+    ∷ did 0 (calls.Cas the_shard (Some 0) t.bytes_1)
+    ∷ did 0 (calls.Cas the_shard None t.bytes_0)
     ∷ []
 
 -- from the empty store
-abbrev pub example : ExampleBytes → History
-example b = record { start = empty_store; trail = reverse (example_back b) }
+abbrev pub example_with : Texts → History
+example_with t = record { start = empty_store; trail = reverse (example_back t) }
+
+-- with the bytes that spell the versions
+abbrev pub example : History
+example = example_with own_texts

@@ -10,6 +10,7 @@ pub mod Laws
 pub mod Example
 pub mod Spending
 pub mod Answers
+pub mod Lasting
 pub mod Placing
 pub mod Legal
 pub mod Costs

@@ -5,6 +5,7 @@ mod accepting;
 pub mod answer_laws;
 mod asked;
 pub mod example_laws;
+pub mod lasting_laws;
 pub mod laws;
 pub mod part_laws;
 mod read_answers;

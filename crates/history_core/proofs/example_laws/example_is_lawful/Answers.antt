@@ -12,7 +12,7 @@ pub returns-clause-stands : goal.returns-clause-stands
 returns-clause-stands c = example_stands
 
 pub returns-clause-merged : goal.returns-clause-merged
-returns-clause-merged c = λ b. refl
+returns-clause-merged c = refl
 
 pub returns-clause-collected : goal.returns-clause-collected
-returns-clause-collected c = λ b. refl
+returns-clause-collected c = refl
