@@ -47,3 +47,4 @@ pub mod OneAnswer
 pub mod Gaining
 pub mod Committed
 pub mod Answering
+pub mod ExampleAnswers

@@ -15,3 +15,4 @@ pub mod Placing
 pub mod Legal
 pub mod Costs
 pub mod AnswerLaws
+pub mod ExampleAnswers

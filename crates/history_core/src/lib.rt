@@ -4,6 +4,7 @@
 mod accepting;
 pub mod answer_laws;
 mod asked;
+pub mod example_answers;
 pub mod example_laws;
 pub mod lasting_laws;
 pub mod laws;
