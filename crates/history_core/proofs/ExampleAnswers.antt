@@ -1,16 +1,12 @@
 -- The answers in the history at work are legal.
-use Rattle.std.proofs.Common.{◌≡◌, ℕ, ◌+◌, List, [], ◌∷◌, ◌++◌, ◌⊎◌, inl, inr, Option, Some, None, refl, sym, ap, subst, arith, ◌∙◌, drop, take}
-use Rattle.update_core.specs.declared.updates.Update.{Update}
-use Rattle.update_core.specs.declared.rows.Row.{Row}
+use Rattle.std.proofs.Common.{◌≡◌, List, [], ◌∷◌, inl, inr, Some, refl, sym, ap, arith, drop, take}
 use Rattle.update_core.specs.Totals.{consolidated}
 use Rattle.update_core.specs.Updates.{cons, sum_of, slice_of}
 use Rattle.store_core.specs.declared.calls.Call.TheVariants as calls
 use Rattle.store_core.specs.declared.entries.Entry.{Entry}
-use Rattle.store_core.specs.Stores.{Stored, empty_store}
+use Rattle.store_core.specs.Stores.{empty_store}
 use Rattle.store_core.specs.Newest.{replay_back}
-use Rattle.state_core.specs.Lists.{Among}
 use Rattle.update_core.specs.Collections.{content, step}
-use Rattle.history_core.specs.declared.asked.Asked.{Asked}
 use Rattle.history_core.specs.declared.asked.Asked.TheVariants as asks
 use Rattle.history_core.specs.declared.read_answers.ReadAnswer.{ReadAnswer}
 use Rattle.history_core.specs.declared.read_answers.ReadAnswer.TheVariants as reads
@@ -18,10 +14,12 @@ use Rattle.history_core.specs.declared.write_answers.WriteAnswer.{WriteAnswer}
 use Rattle.history_core.specs.declared.write_answers.WriteAnswer.TheVariants as writes
 use Rattle.history_core.specs.Discipline.{LawfulBack}
 use Rattle.history_core.specs.Stands.{StandsFor, accepted}
-use Rattle.history_core.specs.Placing.{Placed, placed, Commits, IsAnsweredScan}
-use Rattle.history_core.specs.Legal.{AcceptedAt, LegalRead, LegalWrite, LegalReadBack}
+use Rattle.history_core.specs.Placing.{placed, Commits, IsAnsweredScan}
+use Rattle.history_core.specs.Legal.{entries_of, PartsGot, snapshot_keys, AcceptedAt, LegalRead, LegalWrite}
 use Rattle.history_core.specs.Laws.{LastIs}
-use Rattle.history_core.specs.Example.{the_shard, part_of, seven_at_1, eight_at_6, part_eight, state_2, state_4, state_5, step_4, step_5, did, Texts, own_texts, example_back, example_with}
+use Rattle.std.specs.Prelude.{reverse}
+use Rattle.history_core.specs.Costs.{Within, WithinReads, append_base, failed_calls, foreign_commits, read_base, snapshot_parts}
+use Rattle.history_core.specs.Example.{the_shard, part_of, seven_at_1, eight_at_6, part_both, state_4, state_5, step_5, did, Texts, own_texts, example_back, example_with}
 use Rattle.history_core.specs.ExampleAnswers.{append_history_with, append_history, second_append, read_history_with, read_history, asking, row_of}
 use Rattle.history_core.proofs.ExampleVersions.{Reads, own_reads}
 use Rattle.history_core.proofs.ExampleParts.{reads_seven, reads_eight}
@@ -73,6 +71,16 @@ module _ (t : Texts) (b : Reads t) where
   pub with_rows : LegalRead [] (read_history_with t) (asking (asks.Snapshot 9)) (reads.Rows (row_of 7 ∷ row_of 8 ∷ []))
   with_rows = inr (not_scan (did 3 (calls.Scan the_shard 5) ∷ example_back t), inl (((5, refl), refl), (5, state_5, last_then, (inl (refl, tt), rw list_then (ap content rows_then)))))
 
+  pub with_got : PartsGot empty_store the_shard (snapshot_keys 9) (entries_of (asking (asks.Snapshot 9)) (reverse (read_history_with t).trail))
+  with_got =
+      inr (not_scan (did 3 (calls.Scan the_shard 5) ∷ example_back t), inl (((5, refl), refl), (5, state_5, last_then, ((not_scan (did 3 (calls.Scan the_shard 5) ∷ example_back t), inl (part_both, (refl, refl))), tt))))
+
+  pub with_cost : Within 2 0 (append_base 1) (foreign_commits empty_store the_shard 0 2 (reverse (append_history_with t).trail)) (failed_calls 0 2 (reverse (append_history_with t).trail))
+  with_cost = omega arith
+
+  pub with_read_cost : WithinReads 2 0 (read_base (snapshot_parts 9 state_5)) (failed_calls 3 2 (reverse (read_history_with t).trail))
+  with_read_cost = omega arith
+
   pub with_late : LegalRead [] (read_history_with t) (asking (asks.Snapshot 10)) (reads.Late (Some 10))
   with_late = inr (not_scan (did 3 (calls.Scan the_shard 5) ∷ example_back t), inl (((5, refl), refl), (5, state_5, last_then, (inl (refl, tt), refl))))
 
@@ -96,3 +104,12 @@ snapshot_late = with_late own_texts own_reads
 
 pub listen_step : LegalRead [] read_history (asking (asks.Listen 4)) (reads.Step (Some 5) (Some 10) (eight_at_6 ∷ []))
 listen_step = with_step own_texts own_reads
+
+pub append_cost : Within 2 0 (append_base 1) (foreign_commits empty_store the_shard 0 2 (reverse append_history.trail)) (failed_calls 0 2 (reverse append_history.trail))
+append_cost = with_cost own_texts own_reads
+
+pub read_cost : WithinReads 2 0 (read_base (snapshot_parts 9 state_5)) (failed_calls 3 2 (reverse read_history.trail))
+read_cost = with_read_cost own_texts own_reads
+
+pub part_got : PartsGot empty_store the_shard (snapshot_keys 9) (entries_of (asking (asks.Snapshot 9)) (reverse read_history.trail))
+part_got = with_got own_texts own_reads

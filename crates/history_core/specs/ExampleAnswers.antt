@@ -1,5 +1,5 @@
 -- Commands in the history at work, and their answers.
-use Rattle.std.specs.Prelude.{ℕ, List, [], ◌∷◌, drop, reverse, Option, Some, None, pos}
+use Rattle.std.specs.Prelude.{ℕ, [], ◌∷◌, drop, reverse, Some, None, pos}
 use Rattle.update_core.specs.declared.rows.Row.{Row}
 use Rattle.store_core.specs.declared.calls.Call.TheVariants as calls
 use Rattle.store_core.specs.Stores.{empty_store}

@@ -1,8 +1,11 @@
 use Rattle.history_core.proofs.example_answers.example_append_is_ok.Goals as goal
-use Rattle.history_core.proofs.ExampleAnswers.{append_ok, append_only}
+use Rattle.history_core.proofs.ExampleAnswers.{append_ok, append_only, append_cost}
 
 pub returns-clause-legal : goal.returns-clause-legal
 returns-clause-legal c = append_ok
 
 pub returns-clause-no_other : goal.returns-clause-no_other
 returns-clause-no_other c a h = append_only a h
+
+pub returns-clause-cost : goal.returns-clause-cost
+returns-clause-cost c = append_cost
