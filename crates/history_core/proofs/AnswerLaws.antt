@@ -38,7 +38,8 @@ no_bytes : (log : Log) (n : ℕ) (b : List ℕ) → log.versions ≡ [] → vers
 no_bytes log n b e h = let g = subst (λ (vs : List (List ℕ)). bytes_from log.first vs n ≡ Some b) e h in cc
 
 -- the last version that ever was is live
-last_lives : (now all : Log) (n : ℕ) (b : List ℕ) → Agree now all → n + 1 ≡ end_of now → version_at all n ≡ Some b → version_at now n ≡ Some b
+last_lives : (now all : Log) (n : ℕ) (b : List ℕ) → Agree now all → n + 1 ≡ end_of now → version_at all n ≡ Some b →
+    version_at now n ≡ Some b
 last_lives now all n b agree last there =
     elim (empty_or now.versions) [
       | inl e ↦ absurd (no_bytes all n b (last_none_empty all (sym agree.last ∙ empty_last now e)) there)
@@ -50,7 +51,8 @@ last_lives now all n b agree last there =
     ]
 
 -- the state that is shown at the last version is that version's
-shown_last : (start : Stored) (shard : ShardId) → ((start.logs shard).versions ≡ [] → (start.logs shard).first ≡ 0) → (es : List Entry) (c n : ℕ) (s : ShardState) →
+shown_last : (start : Stored) (shard : ShardId) → ((start.logs shard).versions ≡ [] → (start.logs shard).first ≡ 0) →
+    (es : List Entry) (c n : ℕ) (s : ShardState) →
     IsLast (live start shard es) n → ShowsState (mine_back start es c) shard n s → StateIn shard (live start shard es) n s
 shown_last start shard z es c n s last (b, x, shown, reads) =
     let there = last_lives (live start shard es) (ever start shard es) n b (logs_agree start shard z es) last (shows_ever start shard z es c n b shown) in

@@ -44,7 +44,9 @@ got-of k q b None h = absurd h
 got-of k q b (Some v) h = (h.0, ap Some h.1)
 
 -- a Get that is answered with bytes found them there, and leaves them
-pub got_now : (k : PartKey) (b : List ℕ) (store : Stored) (call : Call) (outcome : Outcome) → IsGot k b call (reply_by store call outcome) → (store.blobs k ≡ Some b) × ((after_outcome store call outcome).blobs k ≡ store.blobs k)
+pub got_now : (k : PartKey) (b : List ℕ) (store : Stored) (call : Call) (outcome : Outcome) →
+    IsGot k b call (reply_by store call outcome) → (store.blobs k ≡ Some b) ×
+    ((after_outcome store call outcome).blobs k ≡ store.blobs k)
 got_now k b store (calls.Get q) Took h = let (e, there) = got-of k q b (store.blobs q) h in (subst (λ (a : PartKey). store.blobs a ≡ Some b) e there, refl)
 got_now k b store (calls.Get q) FailedTook h = absurd h
 got_now k b store (calls.Get q) FailedLost h = absurd h
@@ -85,21 +87,22 @@ stored-set k b (calls.Truncate q x) r h = absurd h
 stored-set k b (calls.Get q) r h = absurd h
 stored-set k b (calls.Delete q) r h = absurd h
 
-stored-took : (k : PartKey) (b : List ℕ) (store : Stored) (outcome : Outcome) → IsStored k b (calls.Set k b) (reply_by store (calls.Set k b) outcome) → (after_outcome store (calls.Set k b) outcome).blobs k ≡ Some b
+stored-took : (k : PartKey) (b : List ℕ) (store : Stored) (outcome : Outcome) →
+    IsStored k b (calls.Set k b) (reply_by store (calls.Set k b) outcome) →
+    (after_outcome store (calls.Set k b) outcome).blobs k ≡ Some b
 stored-took k b store Took h = ap (λ (t : Bool). cond t (Some b) (store.blobs k)) (key_same k)
 stored-took k b store FailedTook h = absurd h
 stored-took k b store FailedLost h = absurd h
 
 -- a Set that is answered Stored leaves the bytes
-stored_now : (k : PartKey) (b : List ℕ) (store : Stored) (call : Call) (outcome : Outcome) → IsStored k b call (reply_by store call outcome) → (call ≡ calls.Set k b) × ((after_outcome store call outcome).blobs k ≡ Some b)
+stored_now : (k : PartKey) (b : List ℕ) (store : Stored) (call : Call) (outcome : Outcome) →
+    IsStored k b call (reply_by store call outcome) → (call ≡ calls.Set k b) ×
+    ((after_outcome store call outcome).blobs k ≡ Some b)
 stored_now k b store call outcome h =
     let e = stored-set k b call (reply_by store call outcome) h in
     (e, subst (λ (c : Call). (after_outcome store c outcome).blobs k ≡ Some b) (sym e) (stored-took k b store outcome (subst (λ (c : Call). IsStored k b c (reply_by store c outcome)) e h)))
 
 module _ (start : Stored) (shard : ShardId) (start_member : ℕ) (begin : Begins start shard start_member) where
-  abbrev Mine : List Entry → ℕ → List Answered
-  Mine es c = mine_back start es c
-
   abbrev pub Owned : List Entry → ℕ → PartKey → Type 0
   Owned es c k = Owns (mine_back start es c) shard k.member
 
@@ -130,11 +133,14 @@ module _ (start : Stored) (shard : ShardId) (start_member : ℕ) (begin : Begins
   abbrev pub Adders : List Entry → Type 0
   Adders es = (n : ℕ) (s : ShardState) (k : PartKey) → StateIn shard (ever start shard es) n s → Names s k → (k.member < start_member) ⊎ AddedBy es k
 
-  adders_up : (e : Entry) (es : List Entry) (k : PartKey) → (k.member < start_member) ⊎ AddedBy es k → (k.member < start_member) ⊎ AddedBy (e ∷ es) k
+  adders_up : (e : Entry) (es : List Entry) (k : PartKey) → (k.member < start_member) ⊎ AddedBy es k →
+      (k.member < start_member) ⊎ AddedBy (e ∷ es) k
   adders_up e es k (inl g) = inl g
   adders_up e es k (inr g) = inr (added_older e es k g)
 
-  under : (call : Call) (n : ℕ) (bytes : List ℕ) (to : ShardState) (step : Transition) (m t : ℕ) → call ≡ calls.Cas shard (Some n) bytes → version_in shard (n + 1) bytes ≡ Some (to, step) → Spends step m t → IsCasUnder shard m t call
+  under : (call : Call) (n : ℕ) (bytes : List ℕ) (to : ShardState) (step : Transition) (m t : ℕ) →
+      call ≡ calls.Cas shard (Some n) bytes → version_in shard (n + 1) bytes ≡ Some (to, step) → Spends step m t →
+      IsCasUnder shard m t call
   under call n bytes to step m t c w sp = subst (λ (q : Call). IsCasUnder shard m t q) (sym c) (refl, rw w sp)
 
   adders_step : (e : Entry) (es : List Entry) → LawfulBack start (e ∷ es) → Adders es → Adders (e ∷ es)
@@ -168,11 +174,13 @@ module _ (start : Stored) (shard : ShardId) (start_member : ℕ) (begin : Begins
   adders [] l n s k h named = inl (begin.named n s k h named)
   adders (e ∷ es) l n s k h named = adders_step e es l (adders es (lawful_older start e es l)) n s k h named
 
-  pub set_owned : (es : List Entry) (c : ℕ) (k : PartKey) (bytes : List ℕ) → k.shard ≡ shard → SetAllowed (mine_back start es c) k bytes → Owned es c k
+  pub set_owned : (es : List Entry) (c : ℕ) (k : PartKey) (bytes : List ℕ) → k.shard ≡ shard →
+      SetAllowed (mine_back start es c) k bytes → Owned es c k
   set_owned es c k bytes e a = subst (λ (q : ShardId). Owns (mine_back start es c) q k.member) e a.owned
 
   -- an allowed Set has the bytes that its key came with
-  pub origin_same : (es : List Entry) → LawfulBack start es → (c : ℕ) (k : PartKey) (b bytes : List ℕ) → k.shard ≡ shard → Origin es k b → SetAllowed (mine_back start es c) k bytes → b ≡ bytes
+  pub origin_same : (es : List Entry) → LawfulBack start es → (c : ℕ) (k : PartKey) (b bytes : List ℕ) → k.shard ≡ shard →
+      Origin es k b → SetAllowed (mine_back start es c) k bytes → b ≡ bytes
   origin_same es l c k b bytes e (inl lt) a = let low : start_member ≤ k.member = (owners_at es l).new c k.member (set_owned es c k bytes e a) in absurd (omega arith)
   origin_same es l c k b bytes e (inr o) a =
       let me : o.0 ≡ c = (owners_at es l).one o.0 c k.member o.2 (set_owned es c k bytes e a) in
@@ -182,7 +190,9 @@ module _ (start : Stored) (shard : ShardId) (start_member : ℕ) (begin : Begins
       sames2 refl
 
   -- an allowed Set is of a key that no version names
-  pub set_unnamed : (es : List Entry) → LawfulBack start es → (c : ℕ) (k : PartKey) (bytes : List ℕ) → k.shard ≡ shard → SetAllowed (mine_back start es c) k bytes → (n : ℕ) (s : ShardState) → StateIn shard (ever start shard es) n s → ¬ Names s k
+  pub set_unnamed : (es : List Entry) → LawfulBack start es → (c : ℕ) (k : PartKey) (bytes : List ℕ) → k.shard ≡ shard →
+      SetAllowed (mine_back start es c) k bytes → (n : ℕ) (s : ShardState) → StateIn shard (ever start shard es) n s →
+      ¬ Names s k
   set_unnamed es l c k bytes e a n s h named = elim (adders es l n s k h named) [
     | inl lt ↦ let low : start_member ≤ k.member = (owners_at es l).new c k.member (set_owned es c k bytes e a) in omega arith
     | inr o ↦
@@ -191,7 +201,8 @@ module _ (start : Stored) (shard : ShardId) (start_member : ℕ) (begin : Begins
         a.fresh (subst (λ (q : ShardId). Among (λ (w : Answered). IsCasUnder q k.member k.token w.entry.call) (mine_back start es c)) (sym e) under2)
   ]
 
-  pub allowed_set : (e : Entry) (es : List Entry) (k : PartKey) (bytes : List ℕ) → LawfulBack start (e ∷ es) → e.call ≡ calls.Set k bytes → SetAllowed (mine_back start es e.client) k bytes
+  pub allowed_set : (e : Entry) (es : List Entry) (k : PartKey) (bytes : List ℕ) → LawfulBack start (e ∷ es) →
+      e.call ≡ calls.Set k bytes → SetAllowed (mine_back start es e.client) k bytes
   allowed_set e es k bytes l c = subst (Allows (mine_back start es e.client)) c (lawful_newest start e es l)
 
   -- all bytes under the shard's keys have an origin
@@ -228,7 +239,9 @@ module _ (start : Stored) (shard : ShardId) (start_member : ℕ) (begin : Begins
       before : LawfulBack start es
       before = lawful_older start e es l
 
-      go : Origin es k b → (((replay_back start es).blobs k ≡ None) ⊎ ((replay_back start es).blobs k ≡ Some b)) → BlobStep k (replay_back start es) e.call e.outcome → ((replay_back start (e ∷ es)).blobs k ≡ None) ⊎ ((replay_back start (e ∷ es)).blobs k ≡ Some b)
+      go : Origin es k b → (((replay_back start es).blobs k ≡ None) ⊎ ((replay_back start es).blobs k ≡ Some b)) →
+          BlobStep k (replay_back start es) e.call e.outcome → ((replay_back start (e ∷ es)).blobs k ≡ None) ⊎
+          ((replay_back start (e ∷ es)).blobs k ≡ Some b)
       go o holds (same q) = elim holds [ inl n ↦ inl (q ∙ n) | inr n ↦ inr (q ∙ n) ]
       go o holds (set bytes c2 q) = inr (q ∙ ap Some (sym (origin_same es before e.client k b bytes here o (allowed_set e es k bytes l c2))))
       go o holds (gone c2 q) = inl q
@@ -242,7 +255,8 @@ module _ (start : Stored) (shard : ShardId) (start_member : ℕ) (begin : Begins
   Stores es = (c : ℕ) (k : PartKey) (b : List ℕ) → k.shard ≡ shard → StoredAs (mine_back start es c) k b →
       Among (IsSet k b) (mine_back start es c) × Owned es c k × (((replay_back start es).blobs k ≡ Some b) ⊎ ((n : ℕ) × TakenIn shard (ever start shard es) n k))
 
-  pub taken_on : (e : Entry) (es : List Entry) (n : ℕ) (k : PartKey) → TakenIn shard (ever start shard es) n k → TakenIn shard (ever start shard (e ∷ es)) n k
+  pub taken_on : (e : Entry) (es : List Entry) (n : ℕ) (k : PartKey) → TakenIn shard (ever start shard es) n k →
+      TakenIn shard (ever start shard (e ∷ es)) n k
   taken_on e es n k t = taken_ever_on start shard e es n k t
 
   stores_step : (e : Entry) (es : List Entry) → LawfulBack start (e ∷ es) → Stores es → Stores (e ∷ es)
@@ -262,7 +276,9 @@ module _ (start : Stored) (shard : ShardId) (start_member : ℕ) (begin : Begins
       before : LawfulBack start es
       before = lawful_older start e es l
 
-      go : Among (IsSet k b) (mine_back start es c) → Owned es c k → (((replay_back start es).blobs k ≡ Some b) ⊎ ((n : ℕ) × TakenIn shard (ever start shard es) n k)) → BlobStep k (replay_back start es) e.call e.outcome →
+      go : Among (IsSet k b) (mine_back start es c) → Owned es c k →
+          (((replay_back start es).blobs k ≡ Some b) ⊎ ((n : ℕ) × TakenIn shard (ever start shard es) n k)) →
+          BlobStep k (replay_back start es) e.call e.outcome →
           ((replay_back start (e ∷ es)).blobs k ≡ Some b) ⊎ ((n : ℕ) × TakenIn shard (ever start shard (e ∷ es)) n k)
       go sets owned (inr t) step = inr (t.0, taken_on e es t.0 k t.1)
       go sets owned (inl h) (same q) = inl (q ∙ h)

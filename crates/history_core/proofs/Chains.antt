@@ -12,21 +12,26 @@ use Rattle.history_core.specs.Stands.{read_version, VersionIs, StateIn, end_of, 
 use Rattle.state_core.proofs.Floors.{floor_rises}
 use Rattle.history_core.proofs.Logs.{committed_either, committed_old, committed_new, version_bounds, version_there}
 
-pub version_is : (shard : ShardId) (log : Log) (n : ℕ) (b : List ℕ) (s : ShardState) (x : Transition) → version_at log n ≡ Some b → version_in shard n b ≡ Some (s, x) → VersionIs shard log n s x
+pub version_is : (shard : ShardId) (log : Log) (n : ℕ) (b : List ℕ) (s : ShardState) (x : Transition) →
+    version_at log n ≡ Some b → version_in shard n b ≡ Some (s, x) → VersionIs shard log n s x
 version_is shard log n b s x h d = rw h d
 
-bytes-of : (shard : ShardId) (n : ℕ) (o : Option (List ℕ)) (s : ShardState) (x : Transition) → read_version shard n o ≡ Some (s, x) → (b : List ℕ) × (o ≡ Some b) × (version_in shard n b ≡ Some (s, x))
+bytes-of : (shard : ShardId) (n : ℕ) (o : Option (List ℕ)) (s : ShardState) (x : Transition) →
+    read_version shard n o ≡ Some (s, x) → (b : List ℕ) × (o ≡ Some b) × (version_in shard n b ≡ Some (s, x))
 bytes-of shard n None s x h = cc
 bytes-of shard n (Some b) s x h = (b, refl, h)
 
-pub bytes_of : (shard : ShardId) (log : Log) (n : ℕ) (s : ShardState) (x : Transition) → VersionIs shard log n s x → (b : List ℕ) × (version_at log n ≡ Some b) × (version_in shard n b ≡ Some (s, x))
+pub bytes_of : (shard : ShardId) (log : Log) (n : ℕ) (s : ShardState) (x : Transition) → VersionIs shard log n s x →
+    (b : List ℕ) × (version_at log n ≡ Some b) × (version_in shard n b ≡ Some (s, x))
 bytes_of shard log n s x h = bytes-of shard n (version_at log n) s x h
 
-pub one_state : (shard : ShardId) (log : Log) (n : ℕ) (s s2 : ShardState) (x x2 : Transition) → VersionIs shard log n s x → VersionIs shard log n s2 x2 → (s ≡ s2) × (x ≡ x2)
+pub one_state : (shard : ShardId) (log : Log) (n : ℕ) (s s2 : ShardState) (x x2 : Transition) → VersionIs shard log n s x →
+    VersionIs shard log n s2 x2 → (s ≡ s2) × (x ≡ x2)
 one_state shard log n s s2 x x2 h g = let e : (s, x) ≡ (s2, x2) = cc in (ap (λ (p : ShardState × Transition). p.0) e, ap (λ (p : ShardState × Transition). p.1) e)
 
 -- a version of a log is old, or the newest
-pub either_version : (shard : ShardId) (log : Log) (bytes : List ℕ) (n : ℕ) (s : ShardState) (x : Transition) → VersionIs shard (committed log bytes) n s x →
+pub either_version : (shard : ShardId) (log : Log) (bytes : List ℕ) (n : ℕ) (s : ShardState) (x : Transition) →
+    VersionIs shard (committed log bytes) n s x →
     VersionIs shard log n s x ⊎ ((n ≡ end_of log) × (version_in shard n bytes ≡ Some (s, x)))
 either_version shard log bytes n s x h =
     let (b, there, reads) = bytes_of shard (committed log bytes) n s x h in
@@ -35,12 +40,14 @@ either_version shard log bytes n s x h =
       | inr g ↦ inr (g.0, subst (λ (c : List ℕ). version_in shard n c ≡ Some (s, x)) g.1 reads)
     ]
 
-pub version_on : (shard : ShardId) (log : Log) (bytes : List ℕ) (n : ℕ) (s : ShardState) (x : Transition) → VersionIs shard log n s x → VersionIs shard (committed log bytes) n s x
+pub version_on : (shard : ShardId) (log : Log) (bytes : List ℕ) (n : ℕ) (s : ShardState) (x : Transition) →
+    VersionIs shard log n s x → VersionIs shard (committed log bytes) n s x
 version_on shard log bytes n s x h =
     let (b, there, reads) = bytes_of shard log n s x h in
     version_is shard (committed log bytes) n b s x (committed_old log bytes n b there) reads
 
-pub version_below : (shard : ShardId) (log : Log) (n : ℕ) (s : ShardState) (x : Transition) → VersionIs shard log n s x → (log.first ≤ n) × (n < end_of log)
+pub version_below : (shard : ShardId) (log : Log) (n : ℕ) (s : ShardState) (x : Transition) → VersionIs shard log n s x →
+    (log.first ≤ n) × (n < end_of log)
 version_below shard log n s x h = let (b, there, reads) = bytes_of shard log n s x h in version_bounds log n b there
 
 -- bytes that commit after version n
@@ -55,7 +62,8 @@ pub record Commit (shard : ShardId) (log : Log) (bytes : List ℕ) : Type 0 wher
   pub applies : Applies from step to
 
 -- in the longer log a version is old, or is the one committed
-pub after_commit : (shard : ShardId) (log : Log) (bytes : List ℕ) (k : Commit shard log bytes) (m : ℕ) (s : ShardState) (x : Transition) → VersionIs shard (committed log bytes) m s x →
+pub after_commit : (shard : ShardId) (log : Log) (bytes : List ℕ) (k : Commit shard log bytes) (m : ℕ) (s : ShardState)
+    (x : Transition) → VersionIs shard (committed log bytes) m s x →
     VersionIs shard log m s x ⊎ ((m ≡ (k.n + 1)) × (s ≡ k.to) × (x ≡ k.step))
 after_commit shard log bytes k m s x h =
     elim (either_version shard log bytes m s x h) [
@@ -68,12 +76,14 @@ after_commit shard log bytes k m s x h =
           inr (at_end, ap (λ (p : ShardState × Transition). p.0) e, ap (λ (p : ShardState × Transition). p.1) e)
     ]
 
-pub newest_is : (shard : ShardId) (log : Log) (bytes : List ℕ) (k : Commit shard log bytes) → VersionIs shard (committed log bytes) (k.n + 1) k.to k.step
+pub newest_is : (shard : ShardId) (log : Log) (bytes : List ℕ) (k : Commit shard log bytes) →
+    VersionIs shard (committed log bytes) (k.n + 1) k.to k.step
 newest_is shard log bytes k =
     version_is shard (committed log bytes) (k.n + 1) bytes k.to k.step
     (subst (λ (j : ℕ). version_at (committed log bytes) j ≡ Some bytes) (sym k.last) (committed_new log bytes)) k.written
 
-pub chain_commit : (shard : ShardId) (log : Log) (bytes : List ℕ) → Commit shard log bytes → IsChain shard log → IsChain shard (committed log bytes)
+pub chain_commit : (shard : ShardId) (log : Log) (bytes : List ℕ) → Commit shard log bytes → IsChain shard log →
+    IsChain shard (committed log bytes)
 chain_commit shard log bytes k ch = record {
   each = λ n b h. elim (committed_either log bytes n b h) [
     | inl g ↦ ch.each n b g
@@ -96,7 +106,8 @@ chain_commit shard log bytes k ch = record {
   ];
 }
 
-pub chain_first : (shard : ShardId) (bytes : List ℕ) → version_in shard 0 bytes ≡ Some (init shard, Init) → IsChain shard (committed no_log bytes)
+pub chain_first : (shard : ShardId) (bytes : List ℕ) → version_in shard 0 bytes ≡ Some (init shard, Init) →
+    IsChain shard (committed no_log bytes)
 chain_first shard bytes d = record {
   each = λ n b h. elim (committed_either no_log bytes n b h) [
     | inl g ↦ cc
@@ -107,7 +118,8 @@ chain_first shard bytes d = record {
 }
 
 -- what no transition lowers is lowered by no version
-chain-rises : (shard : ShardId) (log : Log) → IsChain shard log → (f : ShardState → ℕ) → ((s s2 : ShardState) (x : Transition) → Applies s x s2 → f s ≤ f s2) →
+chain-rises : (shard : ShardId) (log : Log) → IsChain shard log → (f : ShardState → ℕ) →
+    ((s s2 : ShardState) (x : Transition) → Applies s x s2 → f s ≤ f s2) →
     (d m n : ℕ) → n ≡ m + d → (s s2 : ShardState) (x x2 : Transition) → VersionIs shard log m s x → VersionIs shard log n s2 x2 → f s ≤ f s2
 chain-rises shard log ch f up zero m n e s s2 x x2 h g =
     let e2 : m ≡ n = omega arith in
@@ -124,10 +136,12 @@ chain-rises shard log ch f up (suc d) m n e s s2 x x2 h g =
     let above : f t ≤ f s2 = up t s2 x2 (ch.step (m + d) t s2 y x2 mid (subst (λ (j : ℕ). VersionIs shard log j s2 x2) e2 g)) in
     omega arith
 
-pub chain_rises : (shard : ShardId) (log : Log) → IsChain shard log → (f : ShardState → ℕ) → ((s s2 : ShardState) (x : Transition) → Applies s x s2 → f s ≤ f s2) →
+pub chain_rises : (shard : ShardId) (log : Log) → IsChain shard log → (f : ShardState → ℕ) →
+    ((s s2 : ShardState) (x : Transition) → Applies s x s2 → f s ≤ f s2) →
     (m n : ℕ) → m ≤ n → (s s2 : ShardState) → StateIn shard log m s → StateIn shard log n s2 → f s ≤ f s2
 chain_rises shard log ch f up m n le s s2 h g = chain-rises shard log ch f up (n - m) m n (omega arith) s s2 h.0 g.0 h.1 g.1
 
 -- the floor never falls along the versions
-pub floors_rise : (shard : ShardId) (log : Log) → IsChain shard log → (m n : ℕ) → m ≤ n → (s s2 : ShardState) → StateIn shard log m s → StateIn shard log n s2 → floor s ≤ floor s2
+pub floors_rise : (shard : ShardId) (log : Log) → IsChain shard log → (m n : ℕ) → m ≤ n → (s s2 : ShardState) →
+    StateIn shard log m s → StateIn shard log n s2 → floor s ≤ floor s2
 floors_rise shard log ch m n le s s2 h g = chain_rises shard log ch floor (λ t t2 y a. floor_rises t t2 y a) m n le s s2 h g

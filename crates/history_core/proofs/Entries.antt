@@ -71,15 +71,19 @@ chosen true false x y = refl
 chosen false b x y = refl
 
 -- a Cas that commits adds its bytes, and no other changes the log
-pub cas_log_is : (log : Log) (expected : Option ℕ) (bytes : List ℕ) → cas_log log expected bytes ≡ cond (commits log expected) (committed log bytes) log
+pub cas_log_is : (log : Log) (expected : Option ℕ) (bytes : List ℕ) →
+    cas_log log expected bytes ≡ cond (commits log expected) (committed log bytes) log
 cas_log_is log expected bytes = chosen (same_number expected (last_number log)) (is_last_number expected) (committed log bytes) log
 
 -- what an entry does to the versions of a shard, live and ever
 pub data LogStep (shard : ShardId) (before : Stored) (call : Call) (outcome : Outcome) : Type 0 where
-  idle : (after_outcome before call outcome).logs shard ≡ before.logs shard → ((log : Log) → grown shard (before.logs shard) call outcome log ≡ log) → LogStep shard before call outcome
-  cuts : (below : ℕ) → call ≡ calls.Truncate shard below → (after_outcome before call outcome).logs shard ≡ truncated (before.logs shard) below →
+  idle : (after_outcome before call outcome).logs shard ≡ before.logs shard →
       ((log : Log) → grown shard (before.logs shard) call outcome log ≡ log) → LogStep shard before call outcome
-  adds : (expected : Option ℕ) (bytes : List ℕ) → call ≡ calls.Cas shard expected bytes → took_effect outcome ≡ true → commits (before.logs shard) expected ≡ true →
+  cuts : (below : ℕ) → call ≡ calls.Truncate shard below →
+      (after_outcome before call outcome).logs shard ≡ truncated (before.logs shard) below →
+      ((log : Log) → grown shard (before.logs shard) call outcome log ≡ log) → LogStep shard before call outcome
+  adds : (expected : Option ℕ) (bytes : List ℕ) → call ≡ calls.Cas shard expected bytes → took_effect outcome ≡ true →
+      commits (before.logs shard) expected ≡ true →
       (after_outcome before call outcome).logs shard ≡ committed (before.logs shard) bytes →
       ((log : Log) → grown shard (before.logs shard) call outcome log ≡ committed log bytes) → LogStep shard before call outcome
 
@@ -97,7 +101,8 @@ record CasAdds (at_shard shard : ShardId) (before : Stored) (expected : Option �
 there : (shard : ShardId) (log old : Log) → cond (same_shard shard shard) log old ≡ log
 there shard log old = ap (λ (t : Bool). cond t log old) (shard_same shard)
 
-cas_here : (shard : ShardId) (before : Stored) (expected : Option ℕ) (bytes : List ℕ) → CasIdle shard shard before expected bytes ⊎ CasAdds shard shard before expected bytes
+cas_here : (shard : ShardId) (before : Stored) (expected : Option ℕ) (bytes : List ℕ) →
+    CasIdle shard shard before expected bytes ⊎ CasAdds shard shard before expected bytes
 cas_here shard before expected bytes =
     let live = before.logs shard in
     let new = cas_log live expected bytes in
@@ -115,13 +120,15 @@ cas_here shard before expected bytes =
       })
     ]
 
-pub cas_commits : (shard : ShardId) (before : Stored) (expected : Option ℕ) (bytes : List ℕ) → commits (before.logs shard) expected ≡ true →
+pub cas_commits : (shard : ShardId) (before : Stored) (expected : Option ℕ) (bytes : List ℕ) →
+    commits (before.logs shard) expected ≡ true →
     (after_call before (calls.Cas shard expected bytes)).logs shard ≡ committed (before.logs shard) bytes
 cas_commits shard before expected bytes e =
     let live = before.logs shard in
     there shard (cas_log live expected bytes) live ∙ cas_log_is live expected bytes ∙ ap (λ (t : Bool). cond t (committed live bytes) live) e
 
-cas_effect : (at_shard shard : ShardId) (before : Stored) (expected : Option ℕ) (bytes : List ℕ) → CasIdle at_shard shard before expected bytes ⊎ CasAdds at_shard shard before expected bytes
+cas_effect : (at_shard shard : ShardId) (before : Stored) (expected : Option ℕ) (bytes : List ℕ) →
+    CasIdle at_shard shard before expected bytes ⊎ CasAdds at_shard shard before expected bytes
 cas_effect at_shard shard before expected bytes =
     elim (bool_cases (same_shard at_shard shard)) [
       | inl e ↦ subst (λ (a : ShardId). CasIdle a shard before expected bytes ⊎ CasAdds a shard before expected bytes) (sym (shard_eq at_shard shard e)) (cas_here shard before expected bytes)
@@ -181,14 +188,18 @@ log_step shard before (calls.Cas s expected bytes) FailedLost = idle refl (λ lo
 -- what an entry does to the bytes under a key
 pub data BlobStep (key : PartKey) (before : Stored) (call : Call) (outcome : Outcome) : Type 0 where
   same : (after_outcome before call outcome).blobs key ≡ before.blobs key → BlobStep key before call outcome
-  set : (bytes : List ℕ) → call ≡ calls.Set key bytes → (after_outcome before call outcome).blobs key ≡ Some bytes → BlobStep key before call outcome
+  set : (bytes : List ℕ) → call ≡ calls.Set key bytes → (after_outcome before call outcome).blobs key ≡ Some bytes →
+      BlobStep key before call outcome
   gone : call ≡ calls.Delete key → (after_outcome before call outcome).blobs key ≡ None → BlobStep key before call outcome
 
-set_effect : (k key : PartKey) (before : Stored) (b : Option (List ℕ)) → (cond (is_eq (key_cmp k key)) b (before.blobs key) ≡ before.blobs key) ⊎ ((k ≡ key) × (cond (is_eq (key_cmp k key)) b (before.blobs key) ≡ b))
+set_effect : (k key : PartKey) (before : Stored) (b : Option (List ℕ)) →
+    (cond (is_eq (key_cmp k key)) b (before.blobs key) ≡ before.blobs key) ⊎
+    ((k ≡ key) × (cond (is_eq (key_cmp k key)) b (before.blobs key) ≡ b))
 set_effect k key before b =
     elim (bool_cases (is_eq (key_cmp k key))) [ inl e ↦ inr (key_eq k key e, ap (λ (t : Bool). cond t b (before.blobs key)) e) | inr e ↦ inl (ap (λ (t : Bool). cond t b (before.blobs key)) e) ]
 
-cas_blobs : (s : ShardId) (before : Stored) (expected : Option ℕ) (bytes : List ℕ) (key : PartKey) → (after_call before (calls.Cas s expected bytes)).blobs key ≡ before.blobs key
+cas_blobs : (s : ShardId) (before : Stored) (expected : Option ℕ) (bytes : List ℕ) (key : PartKey) →
+    (after_call before (calls.Cas s expected bytes)).blobs key ≡ before.blobs key
 cas_blobs s before expected bytes key = refl
 
 pub blob_step : (key : PartKey) (before : Stored) (call : Call) (outcome : Outcome) → BlobStep key before call outcome
@@ -209,21 +220,26 @@ blob_step key before (calls.Delete k) Took = elim (set_effect k key before None)
 blob_step key before (calls.Delete k) FailedTook = elim (set_effect k key before None) [ inl e ↦ same e | inr p ↦ gone (ap calls.Delete p.0) p.1 ]
 
 -- an own entry is the newest one, or an older one
-pub among_mine : (P : Answered → Type 0) (start : Stored) (e : Entry) (es : List Entry) (c : ℕ) → Among P (mine_back start (e ∷ es) c) → ((e.client ≡ c) × P (answered e (reply (replay_back start es) e))) ⊎ Among P (mine_back start es c)
+pub among_mine : (P : Answered → Type 0) (start : Stored) (e : Entry) (es : List Entry) (c : ℕ) →
+    Among P (mine_back start (e ∷ es) c) → ((e.client ≡ c) × P (answered e (reply (replay_back start es) e))) ⊎
+    Among P (mine_back start es c)
 among_mine P start e es c h =
     elim (bool_cases (eqb e.client c)) [
       | inl q ↦ elim (subst (λ (b : Bool). Among P (cond b (answered e (reply (replay_back start es) e) ∷ mine_back start es c) (mine_back start es c))) q h) [ inl p ↦ inl (eqb-true e.client c q, p) | inr r ↦ inr r ]
       | inr q ↦ inr (subst (λ (b : Bool). Among P (cond b (answered e (reply (replay_back start es) e) ∷ mine_back start es c) (mine_back start es c))) q h)
     ]
 
-pub mine_older : (P : Answered → Type 0) (start : Stored) (e : Entry) (es : List Entry) (c : ℕ) → Among P (mine_back start es c) → Among P (mine_back start (e ∷ es) c)
+pub mine_older : (P : Answered → Type 0) (start : Stored) (e : Entry) (es : List Entry) (c : ℕ) →
+    Among P (mine_back start es c) → Among P (mine_back start (e ∷ es) c)
 mine_older P start e es c h = elim (bool_cases (eqb e.client c)) [ inl q ↦ rw q (inr h) | inr q ↦ rw q h ]
 
-pub mine_newest : (P : Answered → Type 0) (start : Stored) (e : Entry) (es : List Entry) → P (answered e (reply (replay_back start es) e)) → Among P (mine_back start (e ∷ es) e.client)
+pub mine_newest : (P : Answered → Type 0) (start : Stored) (e : Entry) (es : List Entry) →
+    P (answered e (reply (replay_back start es) e)) → Among P (mine_back start (e ∷ es) e.client)
 mine_newest P start e es h = let q : eqb e.client e.client ≡ true = eq-eqb e.client e.client refl in rw q (inl h)
 
 -- the newest entry is allowed
-pub lawful_newest : (start : Stored) (e : Entry) (es : List Entry) → LawfulBack start (e ∷ es) → Allows (mine_back start es e.client) e.call
+pub lawful_newest : (start : Stored) (e : Entry) (es : List Entry) → LawfulBack start (e ∷ es) →
+    Allows (mine_back start es e.client) e.call
 lawful_newest start e es l =
     let q : eqb e.client e.client ≡ true = eq-eqb e.client e.client refl in
     (subst (λ (b : Bool). OwnLawful (cond b (answered e (reply (replay_back start es) e) ∷ mine_back start es e.client) (mine_back start es e.client))) q (l e.client)).0
@@ -237,7 +253,8 @@ lawful_older start e es l c =
     ]
 
 -- a Cas changes no bytes under a key
-pub cas_keeps : (call : Call) (s : ShardId) (expected : Option ℕ) (bytes : List ℕ) → call ≡ calls.Cas s expected bytes → (store : Stored) (outcome : Outcome) (key : PartKey) → (after_outcome store call outcome).blobs key ≡ store.blobs key
+pub cas_keeps : (call : Call) (s : ShardId) (expected : Option ℕ) (bytes : List ℕ) → call ≡ calls.Cas s expected bytes →
+    (store : Stored) (outcome : Outcome) (key : PartKey) → (after_outcome store call outcome).blobs key ≡ store.blobs key
 cas_keeps call s expected bytes e store outcome key = subst (λ (q : Call). (after_outcome store q outcome).blobs key ≡ store.blobs key) (sym e) (kept outcome)
   where
     kept : (o : Outcome) → (after_outcome store (calls.Cas s expected bytes) o).blobs key ≡ store.blobs key

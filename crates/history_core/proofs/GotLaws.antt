@@ -39,7 +39,8 @@ replay_behind start [] es = refl
 replay_behind start (f ∷ fs) es = ap (λ s. next s f) (replay_behind start fs es)
 
 -- a later Get of a key that is there is answered with the bytes that are there, where it is answered with bytes
-got_later : (start : Stored) (shard : ShardId) (start_member : ℕ) → Begins start shard start_member → (fs es : List Entry) → LawfulBack start (fs ++ es) → (c : ℕ) (k : PartKey) (b got : List ℕ) → k.shard ≡ shard →
+got_later : (start : Stored) (shard : ShardId) (start_member : ℕ) → Begins start shard start_member → (fs es : List Entry) →
+    LawfulBack start (fs ++ es) → (c : ℕ) (k : PartKey) (b got : List ℕ) → k.shard ≡ shard →
     (replay_back start es).blobs k ≡ Some b → GotAs (mine_back (replay_back start es) fs c) k got → (replay_back start es).blobs k ≡ Some got
 got_later start shard m begin [] es l c k b got here there h = absurd h
 got_later start shard m begin (f ∷ fs) es l c k b got here there h =
@@ -61,7 +62,8 @@ record Here (store : Stored) (shard : ShardId) (list : List Update) (number : �
   pub collection : Collection store shard list
   pub low : floor collection.last ≤ number
 
-here_of : (store : Stored) (shard : ShardId) (list : List Update) (number : ℕ) (last : ShardState) → StandsFor store shard list → LastIs store shard number last → Here store shard list number last
+here_of : (store : Stored) (shard : ShardId) (list : List Update) (number : ℕ) (last : ShardState) →
+    StandsFor store shard list → LastIs store shard number last → Here store shard list number last
 here_of store shard list number last (inl e) is = absurd (state_none shard (store.logs shard) number last e.no_version is.1)
 here_of store shard list number last (inr c) is =
     let (same_number, same) = last_one shard (store.logs shard) c.number number c.last last c.newest c.state is.0 is.1 in
@@ -87,7 +89,8 @@ later_law shard list h later st l number last is c keys rows named held =
     held
 
 -- some of the batches' keys are among all
-some_keys : (p : Batch → Bool) (bs : List Batch) (k : PartKey) → Among (λ q. q ≡ k) (keys_of (filter p bs)) → Among (λ q. q ≡ k) (keys_of bs)
+some_keys : (p : Batch → Bool) (bs : List Batch) (k : PartKey) → Among (λ q. q ≡ k) (keys_of (filter p bs)) →
+    Among (λ q. q ≡ k) (keys_of bs)
 some_keys p [] k h = h
 some_keys p (b ∷ bs) k h =
     elim (bool_cases (p b)) [

@@ -1,5 +1,5 @@
 -- Keys that versions name and take, along a chain.
-use Rattle.std.proofs.Common.{◌≡◌, ℕ, ◌+◌, List, inl, inr, arith, subst, sym, ap, ◌∙◌, Some}
+use Rattle.std.proofs.Common.{◌≡◌, ℕ, ◌+◌, List, inl, inr, arith, subst, sym, ap, Some}
 use Rattle.store_core.specs.declared.shards.ShardId.{ShardId}
 use Rattle.store_core.specs.declared.part_keys.PartKey.{PartKey}
 use Rattle.store_core.specs.Stores.{Log, no_log, committed}
@@ -11,7 +11,7 @@ use Rattle.state_core.specs.VersionReading.{version_in}
 use Rattle.state_core.proofs.VersionFacts.{version_in_state, version_in_shard}
 use Rattle.history_core.specs.Histories.{version_at}
 use Rattle.history_core.specs.Stands.{VersionIs, end_of, KeysIn}
-use Rattle.state_core.proofs.Keys.{fits_on, names_fit, named_after, added_fresh, taken_named, taken_unnamed, added_of}
+use Rattle.state_core.proofs.Keys.{fits_on, names_fit, named_after, added_fresh, taken_named, taken_unnamed}
 use Rattle.history_core.proofs.Chains.{Commit, after_commit, version_below, bytes_of, either_version}
 
 -- a key fits a state of its shard
@@ -78,14 +78,9 @@ module _ (shard : ShardId) (log : Log) (bytes : List ℕ) (c : Commit shard log 
     ];
   }
 
--- what a transition adds is of the shard
-pub shard_of_added : (shard : ShardId) (log : Log) (bytes : List ℕ) (c : Commit shard log bytes) (k : PartKey) → Adds c.step k → k.shard ≡ shard
-shard_of_added shard log bytes c k a =
-    let (member, token, of, spends, acts) = added_of c.from c.to c.step k c.applies a in
-    of.shard_is ∙ (let (b, there, reads) = bytes_of shard log c.n c.from c.from_is.0 c.from_is.1 in version_in_shard shard c.n b c.from c.from_is.0 reads)
-
 -- the log of a shard's first version has that one alone
-pub only_first : (shard : ShardId) (bytes : List ℕ) → version_in shard 0 bytes ≡ Some (init shard, Init) → (n : ℕ) (s : ShardState) (x : Transition) → VersionIs shard (committed no_log bytes) n s x → (init shard ≡ s) × (Init ≡ x)
+pub only_first : (shard : ShardId) (bytes : List ℕ) → version_in shard 0 bytes ≡ Some (init shard, Init) →
+    (n : ℕ) (s : ShardState) (x : Transition) → VersionIs shard (committed no_log bytes) n s x → (init shard ≡ s) × (Init ≡ x)
 only_first shard bytes d n s x h = elim (either_version shard no_log bytes n s x h) [
   | inl g ↦ cc
   | inr g ↦
@@ -95,7 +90,8 @@ only_first shard bytes d n s x h = elim (either_version shard no_log bytes n s x
 ]
 
 -- Init names and takes no key
-pub keys_first : (shard : ShardId) (bytes : List ℕ) → version_in shard 0 bytes ≡ Some (init shard, Init) → KeysIn shard (committed no_log bytes) (init shard)
+pub keys_first : (shard : ShardId) (bytes : List ℕ) → version_in shard 0 bytes ≡ Some (init shard, Init) →
+    KeysIn shard (committed no_log bytes) (init shard)
 keys_first shard bytes d = record {
   named = λ n s k h named. absurd (subst (λ (t : ShardState). Names t k) (sym (only_first shard bytes d n s h.0 h.1).0) named);
   taken = λ n k t. absurd (subst (λ (y : Transition). Takes y k) (sym (only_first shard bytes d n t.0 t.1 t.2).1) t.3);

@@ -9,6 +9,10 @@ pub mod Owners
 pub mod Standing
 pub mod Turns
 pub mod Blobs
+pub mod Tracks
+pub mod TrackPresence
+pub mod Appended
+pub mod LogTracks
 pub mod Presence
 pub mod Shown
 pub mod Once
@@ -16,6 +20,7 @@ pub mod ReadingFacts
 pub mod Contents
 pub mod StateSums
 pub mod PartContents
+pub mod TrackContent
 pub mod Content
 pub mod WalkSteps
 pub mod Walking

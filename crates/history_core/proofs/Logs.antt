@@ -10,7 +10,8 @@ use Rattle.store_core.specs.Stores.{Log, last_number, same_number, next_number, 
 use Rattle.history_core.specs.Histories.{bytes_from, version_at, commits}
 use Rattle.history_core.specs.Stands.{end_of}
 
-bounds-from : (first : ℕ) (vs : List (List ℕ)) (n : ℕ) (v : List ℕ) → bytes_from first vs n ≡ Some v → (first ≤ n) × (n < first + length vs)
+bounds-from : (first : ℕ) (vs : List (List ℕ)) (n : ℕ) (v : List ℕ) → bytes_from first vs n ≡ Some v →
+    (first ≤ n) × (n < first + length vs)
 bounds-from first [] n v h = cc
 bounds-from first (w ∷ vs) n v h =
     elim (bool_cases (eqb n first)) [
@@ -18,7 +19,8 @@ bounds-from first (w ∷ vs) n v h =
       | inr e ↦ let (low, high) = bounds-from (first + 1) vs n v (rw e at h) in (omega arith, omega arith)
     ]
 
-there-from : (first : ℕ) (vs : List (List ℕ)) (n : ℕ) → first ≤ n → n < first + length vs → (v : List ℕ) × (bytes_from first vs n ≡ Some v)
+there-from : (first : ℕ) (vs : List (List ℕ)) (n : ℕ) → first ≤ n → n < first + length vs →
+    (v : List ℕ) × (bytes_from first vs n ≡ Some v)
 there-from first [] n low high = absurd (omega arith)
 there-from first (w ∷ vs) n low high =
     elim (bool_cases (eqb n first)) [
@@ -32,19 +34,22 @@ there-from first (w ∷ vs) n low high =
 past : (first n : ℕ) (w : List ℕ) (vs : List (List ℕ)) → first < n → bytes_from first (w ∷ vs) n ≡ bytes_from (first + 1) vs n
 past first n w vs lt = let ne : n ≡ first → ⊥ = λ q. omega arith in rw (ne_eqb n first ne) refl
 
-append-old : (first : ℕ) (vs ws : List (List ℕ)) (n : ℕ) (v : List ℕ) → bytes_from first vs n ≡ Some v → bytes_from first (vs ++ ws) n ≡ Some v
+append-old : (first : ℕ) (vs ws : List (List ℕ)) (n : ℕ) (v : List ℕ) → bytes_from first vs n ≡ Some v →
+    bytes_from first (vs ++ ws) n ≡ Some v
 append-old first [] ws n v h = cc
 append-old first (w ∷ vs) ws n v h =
     elim (bool_cases (eqb n first)) [ inl e ↦ rw e (rw e at h) | inr e ↦ rw e (append-old (first + 1) vs ws n v (rw e at h)) ]
 
-append-new : (first : ℕ) (vs : List (List ℕ)) (b : List ℕ) (n : ℕ) → n ≡ first + length vs → bytes_from first (vs ++ b ∷ []) n ≡ Some b
+append-new : (first : ℕ) (vs : List (List ℕ)) (b : List ℕ) (n : ℕ) → n ≡ first + length vs →
+    bytes_from first (vs ++ b ∷ []) n ≡ Some b
 append-new first [] b n h = let e : eqb n first ≡ true = eq-eqb n first (omega arith) in rw e
 append-new first (w ∷ vs) b n h =
     let ne : n ≡ first → ⊥ = λ q. omega arith in
     let e : eqb n first ≡ false = ne_eqb n first ne in
     rw e (append-new (first + 1) vs b n (omega arith))
 
-append-either : (first : ℕ) (vs : List (List ℕ)) (b : List ℕ) (n : ℕ) (v : List ℕ) → bytes_from first (vs ++ b ∷ []) n ≡ Some v → (bytes_from first vs n ≡ Some v) ⊎ ((n ≡ first + length vs) × (v ≡ b))
+append-either : (first : ℕ) (vs : List (List ℕ)) (b : List ℕ) (n : ℕ) (v : List ℕ) →
+    bytes_from first (vs ++ b ∷ []) n ≡ Some v → (bytes_from first vs n ≡ Some v) ⊎ ((n ≡ first + length vs) × (v ≡ b))
 append-either first [] b n v h =
     elim (bool_cases (eqb n first)) [
       | inl e ↦ let h2 = rw e at h in let eq : n ≡ first = eqb-true n first e in inr (omega arith, cc)
@@ -67,13 +72,15 @@ version_bounds log n v h = bounds-from log.first log.versions n v h
 pub version_there : (log : Log) (n : ℕ) → log.first ≤ n → n < end_of log → (v : List ℕ) × (version_at log n ≡ Some v)
 version_there log n low high = there-from log.first log.versions n low high
 
-pub committed_old : (log : Log) (b : List ℕ) (n : ℕ) (v : List ℕ) → version_at log n ≡ Some v → version_at (committed log b) n ≡ Some v
+pub committed_old : (log : Log) (b : List ℕ) (n : ℕ) (v : List ℕ) → version_at log n ≡ Some v →
+    version_at (committed log b) n ≡ Some v
 committed_old log b n v h = append-old log.first log.versions (b ∷ []) n v h
 
 pub committed_new : (log : Log) (b : List ℕ) → version_at (committed log b) (end_of log) ≡ Some b
 committed_new log b = append-new log.first log.versions b (end_of log) refl
 
-pub committed_either : (log : Log) (b : List ℕ) (n : ℕ) (v : List ℕ) → version_at (committed log b) n ≡ Some v → (version_at log n ≡ Some v) ⊎ ((n ≡ end_of log) × (v ≡ b))
+pub committed_either : (log : Log) (b : List ℕ) (n : ℕ) (v : List ℕ) → version_at (committed log b) n ≡ Some v →
+    (version_at log n ≡ Some v) ⊎ ((n ≡ end_of log) × (v ≡ b))
 committed_either log b n v h = append-either log.first log.versions b n v h
 
 pub end_of-committed : (log : Log) (b : List ℕ) → end_of (committed log b) ≡ end_of log + 1
@@ -81,7 +88,8 @@ end_of-committed log b = omega (arith, length-append log.versions (b ∷ []))
 
 -- ---- cutting
 
-drop-old : (k first : ℕ) (vs : List (List ℕ)) (n : ℕ) (v : List ℕ) → bytes_from (first + k) (drop k vs) n ≡ Some v → bytes_from first vs n ≡ Some v
+drop-old : (k first : ℕ) (vs : List (List ℕ)) (n : ℕ) (v : List ℕ) → bytes_from (first + k) (drop k vs) n ≡ Some v →
+    bytes_from first vs n ≡ Some v
 drop-old zero first vs n v h = let e : first + 0 ≡ first = omega arith in subst (λ (j : ℕ). bytes_from j vs n ≡ Some v) e h
 drop-old (suc k) first [] n v h = cc
 drop-old (suc k) first (w ∷ vs) n v h =
@@ -90,7 +98,8 @@ drop-old (suc k) first (w ∷ vs) n v h =
     let (low, high) = bounds-from (first + 1) vs n v rest in
     past first n w vs (omega arith) ∙ rest
 
-drop-kept : (k first : ℕ) (vs : List (List ℕ)) (n : ℕ) (v : List ℕ) → first + k ≤ n → bytes_from first vs n ≡ Some v → bytes_from (first + k) (drop k vs) n ≡ Some v
+drop-kept : (k first : ℕ) (vs : List (List ℕ)) (n : ℕ) (v : List ℕ) → first + k ≤ n → bytes_from first vs n ≡ Some v →
+    bytes_from (first + k) (drop k vs) n ≡ Some v
 drop-kept zero first vs n v le h = let e : first ≡ first + 0 = omega arith in subst (λ (j : ℕ). bytes_from j vs n ≡ Some v) e h
 drop-kept (suc k) first [] n v le h = cc
 drop-kept (suc k) first (w ∷ vs) n v le h =
@@ -105,10 +114,12 @@ drop-length (suc k) (w ∷ vs) le = let rest = drop-length k vs (omega arith) in
 few : (a n : ℕ) → min a (n - 1) ≤ n
 few a n = omega arith
 
-pub truncated_old : (log : Log) (below n : ℕ) (v : List ℕ) → version_at (truncated log below) n ≡ Some v → version_at log n ≡ Some v
+pub truncated_old : (log : Log) (below n : ℕ) (v : List ℕ) → version_at (truncated log below) n ≡ Some v →
+    version_at log n ≡ Some v
 truncated_old log below n v h = drop-old (gone log below) log.first log.versions n v h
 
-pub truncated_kept : (log : Log) (below n : ℕ) (v : List ℕ) → below ≤ n → version_at log n ≡ Some v → version_at (truncated log below) n ≡ Some v
+pub truncated_kept : (log : Log) (below n : ℕ) (v : List ℕ) → below ≤ n → version_at log n ≡ Some v →
+    version_at (truncated log below) n ≡ Some v
 truncated_kept log below n v le h =
     let (low, high) = version_bounds log n v h in
     drop-kept (gone log below) log.first log.versions n v (omega arith) h
@@ -131,7 +142,8 @@ pub empty_last : (log : Log) → log.versions ≡ [] → last_number log ≡ Non
 empty_last log h = last_none log (ap length h)
 
 -- the last number is told by the end, and by whether there is a version
-same_last : (k n : ℕ) (a b : Log) → length a.versions ≡ suc k → length b.versions ≡ suc n → end_of a ≡ end_of b → last_number a ≡ last_number b
+same_last : (k n : ℕ) (a b : Log) → length a.versions ≡ suc k → length b.versions ≡ suc n → end_of a ≡ end_of b →
+    last_number a ≡ last_number b
 same_last k n a b x y e = last_some k a x ∙ ap Some (omega arith) ∙ sym (last_some n b y)
 
 pub last_number-truncated : (log : Log) (below : ℕ) → last_number (truncated log below) ≡ last_number log
@@ -188,7 +200,8 @@ pub commits_none_last : (log : Log) → commits log None ≡ true → last_numbe
 commits_none_last log h = sym (commits_last log None h)
 
 -- the number that a commit is answered with
-pub commits_next : (log : Log) (expected : Option ℕ) → (log.versions ≡ [] → log.first ≡ 0) → commits log expected ≡ true → next_number expected ≡ end_of log
+pub commits_next : (log : Log) (expected : Option ℕ) → (log.versions ≡ [] → log.first ≡ 0) → commits log expected ≡ true →
+    next_number expected ≡ end_of log
 commits_next log None z h =
     let e : log.versions ≡ [] = last_none_empty log (commits_none_last log h) in
     let f : log.first ≡ 0 = z e in
@@ -196,12 +209,10 @@ commits_next log None z h =
     omega arith
 commits_next log (Some n) z h = commits_some log n h
 
-pub commits_none : (log : Log) → commits log None ≡ true → log.versions ≡ []
-commits_none log h = last_none_empty log (sym (commits_last log None h))
-
 -- ---- what is shown
 
-numbered-there : (first : ℕ) (vs : List (List ℕ)) (n : ℕ) (b : List ℕ) → Among (λ v. (v.number ≡ n) × (v.bytes ≡ b)) (numbered first vs) → bytes_from first vs n ≡ Some b
+numbered-there : (first : ℕ) (vs : List (List ℕ)) (n : ℕ) (b : List ℕ) →
+    Among (λ v. (v.number ≡ n) × (v.bytes ≡ b)) (numbered first vs) → bytes_from first vs n ≡ Some b
 numbered-there first [] n b h = absurd h
 numbered-there first (w ∷ vs) n b (inl h) = rw (eq-eqb n first (sym h.0)) (ap Some h.1)
 numbered-there first (w ∷ vs) n b (inr h) =
@@ -220,10 +231,12 @@ among-filter P p (x ∷ xs) h =
     ]
 
 -- what a Scan shows is there
-pub scan_there : (from : ℕ) (log : Log) (n : ℕ) (b : List ℕ) → Among (λ v. (v.number ≡ n) × (v.bytes ≡ b)) (filter (λ v. nat_le from v.number) (live log)) → version_at log n ≡ Some b
+pub scan_there : (from : ℕ) (log : Log) (n : ℕ) (b : List ℕ) → Among (λ v. (v.number ≡ n) × (v.bytes ≡ b))
+    (filter (λ v. nat_le from v.number) (live log)) → version_at log n ≡ Some b
 scan_there from log n b h = numbered-there log.first log.versions n b (among-filter (λ v. (v.number ≡ n) × (v.bytes ≡ b)) (λ v. nat_le from v.number) (live log) h)
 
-numbered-shows : (first : ℕ) (vs : List (List ℕ)) (n : ℕ) (b : List ℕ) → bytes_from first vs n ≡ Some b → Among (λ v. (v.number ≡ n) × (v.bytes ≡ b)) (numbered first vs)
+numbered-shows : (first : ℕ) (vs : List (List ℕ)) (n : ℕ) (b : List ℕ) → bytes_from first vs n ≡ Some b →
+    Among (λ v. (v.number ≡ n) × (v.bytes ≡ b)) (numbered first vs)
 numbered-shows first [] n b h = cc
 numbered-shows first (w ∷ vs) n b h =
     elim (bool_cases (eqb n first)) [
@@ -231,7 +244,8 @@ numbered-shows first (w ∷ vs) n b h =
       | inr e ↦ inr (numbered-shows (first + 1) vs n b (rw e at h))
     ]
 
-filter-among : {A : Type 0} (P : A → Type 0) (p : A → Bool) (xs : List A) → ((x : A) → P x → p x ≡ true) → Among P xs → Among P (filter p xs)
+filter-among : {A : Type 0} (P : A → Type 0) (p : A → Bool) (xs : List A) → ((x : A) → P x → p x ≡ true) → Among P xs →
+    Among P (filter p xs)
 filter-among P p [] f h = h
 filter-among P p (x ∷ xs) f (inl h) = subst (λ (t : Bool). Among P (cond t (x ∷ filter p xs) (filter p xs))) (sym (f x h)) (inl h)
 filter-among P p (x ∷ xs) f (inr h) =
@@ -245,12 +259,14 @@ at_least : (a b : ℕ) → a ≤ b → nat_le a b ≡ true
 at_least a b h = grind (arith, nat_tests)
 
 -- a Scan shows each version from its number on
-pub scan_shows : (from : ℕ) (log : Log) (n : ℕ) (b : List ℕ) → from ≤ n → version_at log n ≡ Some b → Among (λ v. (v.number ≡ n) × (v.bytes ≡ b)) (filter (λ v. nat_le from v.number) (live log))
+pub scan_shows : (from : ℕ) (log : Log) (n : ℕ) (b : List ℕ) → from ≤ n → version_at log n ≡ Some b →
+    Among (λ v. (v.number ≡ n) × (v.bytes ≡ b)) (filter (λ v. nat_le from v.number) (live log))
 scan_shows from log n b le h =
     filter-among (λ v. (v.number ≡ n) × (v.bytes ≡ b)) (λ v. nat_le from v.number) (live log) (λ v p. let e : v.number ≡ n = p.0 in at_least from v.number (omega arith))
     (numbered-shows log.first log.versions n b h)
 
-last-there : (first : ℕ) (vs : List (List ℕ)) (v : Version) → last_of (numbered first vs) ≡ Some v → bytes_from first vs v.number ≡ Some v.bytes
+last-there : (first : ℕ) (vs : List (List ℕ)) (v : Version) → last_of (numbered first vs) ≡ Some v →
+    bytes_from first vs v.number ≡ Some v.bytes
 last-there first [] v h = cc
 last-there first (w ∷ []) v h =
     let e : record { number = first; bytes = w } ≡ v = cc in

@@ -59,7 +59,8 @@ true_spends s (Renew a b) m t h = cc
 true_spends s (Advance a b) m t h = cc
 true_spends s (Expire a) m t h = cc
 
-under_idle : (store : Stored) (shard : ShardId) (member token : ℕ) (e : Entry) (call : Call) (all : Log) → grown shard (store.logs shard) call e.outcome all ≡ all → is_commit_under store shard member token e call ≡ false
+under_idle : (store : Stored) (shard : ShardId) (member token : ℕ) (e : Entry) (call : Call) (all : Log) →
+    grown shard (store.logs shard) call e.outcome all ≡ all → is_commit_under store shard member token e call ≡ false
 under_idle store shard member token e (calls.Cas s (Some n) bytes) all h = elim (bool_cases (took_effect e.outcome && (same_shard s shard && commits (store.logs shard) (Some n)))) [
   | inl t ↦
       let h2 : committed all bytes ≡ all = rw t at h in
@@ -76,11 +77,15 @@ under_idle store shard member token e (calls.Get k) all h = refl
 under_idle store shard member token e (calls.Set k b) all h = refl
 under_idle store shard member token e (calls.Delete k) all h = refl
 
-under_none : (store : Stored) (shard : ShardId) (member token : ℕ) (e : Entry) (call : Call) (expected : Option ℕ) (bytes : List ℕ) → call ≡ calls.Cas shard expected bytes → expected ≡ None → is_commit_under store shard member token e call ≡ false
+under_none : (store : Stored) (shard : ShardId) (member token : ℕ) (e : Entry) (call : Call) (expected : Option ℕ)
+    (bytes : List ℕ) → call ≡ calls.Cas shard expected bytes → expected ≡ None →
+    is_commit_under store shard member token e call ≡ false
 under_none store shard member token e call expected bytes c n =
     subst (λ (q : Call). is_commit_under store shard member token e q ≡ false) (sym c) (subst (λ (o : Option ℕ). is_commit_under store shard member token e (calls.Cas shard o bytes) ≡ false) (sym n) refl)
 
-under_grown : (store : Stored) (shard : ShardId) (member token : ℕ) (e : Entry) (call : Call) (expected : Option ℕ) (n : ℕ) (bytes : List ℕ) (to : ShardState) (step : Transition) → call ≡ calls.Cas shard expected bytes → expected ≡ Some n → took_effect e.outcome ≡ true →
+under_grown : (store : Stored) (shard : ShardId) (member token : ℕ) (e : Entry) (call : Call) (expected : Option ℕ) (n : ℕ)
+    (bytes : List ℕ) (to : ShardState) (step : Transition) → call ≡ calls.Cas shard expected bytes → expected ≡ Some n →
+    took_effect e.outcome ≡ true →
     commits (store.logs shard) expected ≡ true → version_in shard (n + 1) bytes ≡ Some (to, step) → is_commit_under store shard member token e call ≡ is_spending (Some (to, step)) member token
 under_grown store shard member token e call expected n bytes to step c ex t k w =
     let k2 : commits (store.logs shard) (Some n) ≡ true = subst (λ (o : Option ℕ). commits (store.logs shard) o ≡ true) ex k in
@@ -102,8 +107,11 @@ module _ (start : Stored) (shard : ShardId) (start_member : ℕ) (begin : Begins
   pub record Counted (es : List Entry) : Type 0 where
     -- before the member joins nothing is under it
     pub empty : ever start shard es ≡ no_log → (t : ℕ) → Count es t ≡ 0
-    pub absent : (number : ℕ) (last : ShardState) → IsLast (ever start shard es) number → StateIn shard (ever start shard es) number last → last.next_member ≤ m → (t : ℕ) → Count es t ≡ 0
-    pub standing : (number : ℕ) (last : ShardState) → IsLast (ever start shard es) number → StateIn shard (ever start shard es) number last → (w : Member) → Among (λ u. u ≡ w) last.members → w.number ≡ m → Told_by (Count es) w.token
+    pub absent : (number : ℕ) (last : ShardState) → IsLast (ever start shard es) number →
+        StateIn shard (ever start shard es) number last → last.next_member ≤ m → (t : ℕ) → Count es t ≡ 0
+    pub standing : (number : ℕ) (last : ShardState) → IsLast (ever start shard es) number →
+        StateIn shard (ever start shard es) number last → (w : Member) → Among (λ u. u ≡ w) last.members → w.number ≡ m →
+        Told_by (Count es) w.token
 
   told_of : (count count2 : ℕ → ℕ) (token : ℕ) → ((t : ℕ) → count2 t ≡ count t) → Told_by count token → Told_by count2 token
   told_of count count2 token same b = record {
@@ -127,7 +135,8 @@ module _ (start : Stored) (shard : ShardId) (start_member : ℕ) (begin : Begins
             standing = λ number last a b w among is. told_of (Count es) (Count (e ∷ es)) w.token same (old.standing number last (subst (λ (g : Log). IsLast g number) q a) (subst (λ (g : Log). StateIn shard g number last) q b) w among is);
           }
 
-      full : (log : Log) (bytes : List ℕ) → ever start shard (e ∷ es) ≡ committed log bytes → ever start shard (e ∷ es) ≡ no_log → ⊥
+      full : (log : Log) (bytes : List ℕ) → ever start shard (e ∷ es) ≡ committed log bytes →
+          ever start shard (e ∷ es) ≡ no_log → ⊥
       full log bytes q h =
           let a : end_of (committed log bytes) ≡ 0 = ap end_of (sym q ∙ h) in
           let b : end_of (committed log bytes) ≡ end_of log + 1 = end_of-committed log bytes in omega arith
@@ -172,7 +181,8 @@ module _ (start : Stored) (shard : ShardId) (start_member : ℕ) (begin : Begins
           }
         where
           -- a spent token is of a member that the state knows
-          spent_known : (s s2 : ShardState) (x : Transition) (member t : ℕ) → IsState s → Applies s x s2 → Spends x member t → member < s.next_member
+          spent_known : (s s2 : ShardState) (x : Transition) (member t : ℕ) → IsState s → Applies s x s2 → Spends x member t →
+              member < s.next_member
           spent_known s s2 (Append a b c2 d e2 f g2) member t r ap2 y =
               let (w, lt, stands) = each_among (λ u. u.number < s.next_member) (λ u. (u.number ≡ a) × ((is_writer u.kind ≡ true) × (u.token < b))) s.members r.known ap2.makes.stands in
               let l2 : w.number < s.next_member = lt in let e3 : w.number ≡ a = stands.0 in let e4 : a ≡ member = y.0 in omega arith
@@ -186,7 +196,9 @@ module _ (start : Stored) (shard : ShardId) (start_member : ℕ) (begin : Begins
           spent_known s s2 (Advance a b) member t r ap2 y = absurd y
           spent_known s s2 (Expire a) member t r ap2 y = absurd y
 
-          after : (count count2 : ℕ → ℕ) (from : ShardState) (x : Transition) (w : Member) → w.number ≡ m → ((t : ℕ) → (Spends x m t → ⊥) → count2 t ≡ count t) → ((t : ℕ) → Spends x m t → count2 t ≡ count t + 1) → After from x w →
+          after : (count count2 : ℕ → ℕ) (from : ShardState) (x : Transition) (w : Member) → w.number ≡ m →
+              ((t : ℕ) → (Spends x m t → ⊥) → count2 t ≡ count t) → ((t : ℕ) → Spends x m t → count2 t ≡ count t + 1) →
+              After from x w →
               ((v : Member) → Among (λ u. u ≡ v) from.members → v.number ≡ m → Told_by count v.token) → (from.next_member ≤ m → (t : ℕ) → count t ≡ 0) → Told_by count2 w.token
           after count count2 from x w is un on (has_joined n z unspent_by) told none =
               let le : from.next_member ≤ m = (let a : w.number ≡ from.next_member = n in let b : w.number ≡ m = is in omega arith) in

@@ -50,7 +50,8 @@ unfolding make_log
 log_is log v f = made log.first 0 log.versions [] f v
 
 -- what an allowed Cas that commits is
-pub commit_of : (start : Stored) (shard : ShardId) → ((start.logs shard).versions ≡ [] → (start.logs shard).first ≡ 0) → (es : List Entry) (c : ℕ) (expected : Option ℕ) (bytes : List ℕ) →
+pub commit_of : (start : Stored) (shard : ShardId) → ((start.logs shard).versions ≡ [] → (start.logs shard).first ≡ 0) →
+    (es : List Entry) (c : ℕ) (expected : Option ℕ) (bytes : List ℕ) →
     commits (live start shard es) expected ≡ true → Allows (mine_back start es c) (calls.Cas shard expected bytes) →
     CommitsFirst shard (ever start shard es) expected bytes ⊎ CommitBy (mine_back start es c) shard (ever start shard es) expected bytes
 commit_of start shard z es c None bytes k a =
@@ -78,7 +79,8 @@ commit_of start shard z es c (Some n) bytes k a =
       holds = a.holds;
     })
 
-pub joins-of : (o : Option (ShardState × Transition)) (m : ℕ) → JoinsAs o m → (s : ShardState) × (kind : Kind) × (now : ℕ) × (lease : ℕ) × (o ≡ Some (s, Join kind now lease)) × (s.next_member ≡ (m + 1))
+pub joins-of : (o : Option (ShardState × Transition)) (m : ℕ) → JoinsAs o m →
+    (s : ShardState) × (kind : Kind) × (now : ℕ) × (lease : ℕ) × (o ≡ Some (s, Join kind now lease)) × (s.next_member ≡ (m + 1))
 joins-of (Some (s, Join kind now lease)) m h = (s, kind, now, lease, refl, h)
 joins-of (Some (s, Init)) m h = absurd h
 joins-of (Some (s, Leave a)) m h = absurd h
@@ -117,7 +119,8 @@ joined-cas shard s store expected bytes member t =
       | inr e ↦ absurd (rw e at t)
     ]
 
-pub joined : (shard : ShardId) (store : Stored) (call : Call) (outcome : Outcome) (member : ℕ) → IsJoin shard member call (reply_by store call outcome) → Joined shard store call member
+pub joined : (shard : ShardId) (store : Stored) (call : Call) (outcome : Outcome) (member : ℕ) →
+    IsJoin shard member call (reply_by store call outcome) → Joined shard store call member
 joined shard store (calls.Cas s expected bytes) Took member t = joined-cas shard s store expected bytes member t
 joined shard store (calls.Cas s expected bytes) FailedTook member t = absurd t
 joined shard store (calls.Cas s expected bytes) FailedLost member t = absurd t
@@ -128,7 +131,8 @@ joined shard store (calls.Get k) outcome member t = absurd t
 joined shard store (calls.Set k b) outcome member t = absurd t
 joined shard store (calls.Delete k) outcome member t = absurd t
 
-is_join-told : (shard : ShardId) (member : ℕ) (call : Call) (r : Reply) → IsJoin shard member call r → (n : ℕ) × (b : List ℕ) × Told shard n b call r × JoinsAs (version_in shard n b) member
+is_join-told : (shard : ShardId) (member : ℕ) (call : Call) (r : Reply) → IsJoin shard member call r →
+    (n : ℕ) × (b : List ℕ) × Told shard n b call r × JoinsAs (version_in shard n b) member
 is_join-told shard member (calls.Cas s expected bytes) (replies.Committed n) h = (n, bytes, (h.0, refl, refl), h.1)
 is_join-told shard member (calls.Cas s expected bytes) (replies.Version v) h = absurd h
 is_join-told shard member (calls.Cas s expected bytes) (replies.Versions v) h = absurd h
@@ -147,11 +151,13 @@ is_join-told shard member (calls.Set k b) r h = absurd h
 is_join-told shard member (calls.Delete k) r h = absurd h
 
 -- an owned member joined in a version that ever was
-pub owned_version : (start : Stored) (shard : ShardId) → ((start.logs shard).versions ≡ [] → (start.logs shard).first ≡ 0) → (es : List Entry) (c m : ℕ) →
+pub owned_version : (start : Stored) (shard : ShardId) → ((start.logs shard).versions ≡ [] → (start.logs shard).first ≡ 0) →
+    (es : List Entry) (c m : ℕ) →
     Owns (mine_back start es c) shard m → (n : ℕ) × (s : ShardState) × (x : Transition) × VersionIs shard (ever start shard es) n s x × (s.next_member ≡ (m + 1))
 owned_version start shard z es c m o = go (mine_back start es c) (λ n b h. shows_ever start shard z es c n b h) o
   where
-    go : (own : List Answered) → ((n : ℕ) (b : List ℕ) → Shows own shard n b → version_at (ever start shard es) n ≡ Some b) → Owns own shard m →
+    go : (own : List Answered) → ((n : ℕ) (b : List ℕ) → Shows own shard n b → version_at (ever start shard es) n ≡ Some b) →
+        Owns own shard m →
         (n : ℕ) × (s : ShardState) × (x : Transition) × VersionIs shard (ever start shard es) n s x × (s.next_member ≡ (m + 1))
     go [] there h = absurd h
     go (p ∷ ps) there (inl h) =

@@ -23,7 +23,8 @@ use Rattle.history_core.proofs.Logs.{scan_shows, version_there}
 
 module _ (start : Stored) (shard : ShardId) (first : (start.logs shard).versions ≡ [] → (start.logs shard).first ≡ 0) where
   -- a Scan that began at most one above the greatest number shown shows that this is the last version's
-  pub newest_shown : (es : List Entry) (e : Entry) (from n : ℕ) (b : List ℕ) → LawfulBack start (e ∷ es) → e.call ≡ calls.Scan shard from → e.outcome ≡ Took → from ≤ n + 1 → Shows (mine_back start (e ∷ es) e.client) shard n b →
+  pub newest_shown : (es : List Entry) (e : Entry) (from n : ℕ) (b : List ℕ) → LawfulBack start (e ∷ es) →
+      e.call ≡ calls.Scan shard from → e.outcome ≡ Took → from ≤ n + 1 → Shows (mine_back start (e ∷ es) e.client) shard n b →
       ((m : ℕ) (v : List ℕ) → Shows (mine_back start (e ∷ es) e.client) shard m v → m ≤ n) → IsLast (live start shard (e ∷ es)) n
   newest_shown es e from n b l c t le shown greatest =
       let agree = logs_agree start shard first (e ∷ es) in
@@ -38,7 +39,8 @@ module _ (start : Stored) (shard : ShardId) (first : (start.logs shard).versions
       below_or : (a d : ℕ) → (a ≤ d) ⊎ (d < a)
       below_or a d = grind arith
 
-      scan_same : (call : Call) (outcome : Outcome) → call ≡ calls.Scan shard from → (after_outcome (replay_back start es) call outcome).logs shard ≡ (replay_back start es).logs shard
+      scan_same : (call : Call) (outcome : Outcome) → call ≡ calls.Scan shard from →
+          (after_outcome (replay_back start es) call outcome).logs shard ≡ (replay_back start es).logs shard
       scan_same call outcome q = subst (λ (w : Call). (after_outcome (replay_back start es) w outcome).logs shard ≡ (replay_back start es).logs shard) (sym q) (kept outcome)
         where
           kept : (o : Outcome) → (after_outcome (replay_back start es) (calls.Scan shard from) o).logs shard ≡ (replay_back start es).logs shard
@@ -46,12 +48,14 @@ module _ (start : Stored) (shard : ShardId) (first : (start.logs shard).versions
           kept FailedTook = refl
           kept FailedLost = refl
 
-      told : (j : ℕ) (v : List ℕ) → from ≤ j → version_at (live start shard es) j ≡ Some v → Told shard j v e.call (reply_by (replay_back start es) e.call e.outcome)
+      told : (j : ℕ) (v : List ℕ) → from ≤ j → version_at (live start shard es) j ≡ Some v →
+          Told shard j v e.call (reply_by (replay_back start es) e.call e.outcome)
       told j v le2 h = subst (λ (w : Call). Told shard j v w (reply_by (replay_back start es) w e.outcome)) (sym c)
           (subst (λ (o : Outcome). Told shard j v (calls.Scan shard from) (reply_by (replay_back start es) (calls.Scan shard from) o)) (sym t)
           (refl, scan_shows from (live start shard es) j v le2 h))
 
-      more : Agree (live start shard (e ∷ es)) (ever start shard (e ∷ es)) → live start shard (e ∷ es) ≡ live start shard es → (n + 1) < end_of (live start shard (e ∷ es)) → version_at (ever start shard (e ∷ es)) n ≡ Some b → ⊥
+      more : Agree (live start shard (e ∷ es)) (ever start shard (e ∷ es)) → live start shard (e ∷ es) ≡ live start shard es →
+          (n + 1) < end_of (live start shard (e ∷ es)) → version_at (ever start shard (e ∷ es)) n ≡ Some b → ⊥
       more agree same_log big there =
           let last : ℕ = pred (end_of (live start shard es)) in
           let e1 : end_of (live start shard (e ∷ es)) ≡ end_of (live start shard es) = ap end_of same_log in
@@ -65,7 +69,8 @@ module _ (start : Stored) (shard : ShardId) (first : (start.logs shard).versions
           ]
         where
           -- a log with a last version has it
-          last_live : (log : Log) → 0 < end_of log → ((log.versions ≡ []) → ⊥) → ⊥ ⊎ ((j : ℕ) × (v : List ℕ) × ((j + 1) ≡ end_of log) × (version_at log j ≡ Some v))
+          last_live : (log : Log) → 0 < end_of log → ((log.versions ≡ []) → ⊥) →
+              ⊥ ⊎ ((j : ℕ) × (v : List ℕ) × ((j + 1) ≡ end_of log) × (version_at log j ≡ Some v))
           last_live log pos ne = elim (below_or (length log.versions) 0) [
             | inl z ↦ inl (ne (empty log.versions z))
             | inr z ↦ let (v, h) = version_there log (log.first + pred (length log.versions)) (omega arith) (omega arith) in inr (log.first + pred (length log.versions), v, omega arith, h)
@@ -75,7 +80,8 @@ module _ (start : Stored) (shard : ShardId) (first : (start.logs shard).versions
               empty [] le0 = refl
               empty (v ∷ vs) le0 = absurd (omega arith)
 
-          some_last : Agree (live start shard (e ∷ es)) (ever start shard (e ∷ es)) → live start shard (e ∷ es) ≡ live start shard es → (live start shard es).versions ≡ [] → ⊥
+          some_last : Agree (live start shard (e ∷ es)) (ever start shard (e ∷ es)) →
+              live start shard (e ∷ es) ≡ live start shard es → (live start shard es).versions ≡ [] → ⊥
           some_last agree2 same2 nil =
               let a : last_number (live start shard es) ≡ None = empty_last (live start shard es) nil in
               let a2 : last_number (live start shard (e ∷ es)) ≡ None = ap last_number same2 ∙ a in

@@ -43,12 +43,14 @@ spends_acts (Advance a b) m t h = absurd h
 spends_acts (Expire a) m t h = absurd h
 
 -- what commits under a member's token is its owner's
-cas_owned : (own : List Answered) (shard : ShardId) (m t n : ℕ) (bytes : List ℕ) → CasAllowed own shard n bytes → is_spending (version_in shard (n + 1) bytes) m t ≡ true → Owns own shard m
+cas_owned : (own : List Answered) (shard : ShardId) (m t n : ℕ) (bytes : List ℕ) → CasAllowed own shard n bytes →
+    is_spending (version_in shard (n + 1) bytes) m t ≡ true → Owns own shard m
 cas_owned own shard m t n bytes a h =
     let spends : Spends a.step m t = true_spends a.to a.step m t (ap (λ (o : Option (ShardState × Transition)). is_spending o m t) (sym a.written) ∙ h) in
     subst (OwnsSome own shard) (spends_acts a.step m t spends) a.owned
 
-under_owned : (own : List Answered) (store : Stored) (shard : ShardId) (m t : ℕ) (e : Entry) (call : Call) → Allows own call → is_commit_under store shard m t e call ≡ true → Owns own shard m
+under_owned : (own : List Answered) (store : Stored) (shard : ShardId) (m t : ℕ) (e : Entry) (call : Call) → Allows own call →
+    is_commit_under store shard m t e call ≡ true → Owns own shard m
 under_owned own store shard m t e (calls.Cas s (Some n) bytes) a h =
     let (p, q) = and_true (took_effect e.outcome && (same_shard s shard && commits (store.logs shard) (Some n))) (is_spending (version_in shard (n + 1) bytes) m t) h in
     let (p1, p2) = and_true (took_effect e.outcome) (same_shard s shard && commits (store.logs shard) (Some n)) p in
@@ -68,7 +70,9 @@ same_counts false true x y f e = absurd (let g = f refl in cc)
 same_counts false false x y f e = ap (λ j. 0 + j) e
 
 -- all that commits under a member's token is of the one client that owns the member
-all_own : (start : Stored) (shard : ShardId) (c m t : ℕ) (es : List Entry) → LawfulBack start es → ((d : ℕ) → Owns (mine_back start es d) shard m → d ≡ c) → own_commits start shard c m t es ≡ commits_under start shard m t es
+all_own : (start : Stored) (shard : ShardId) (c m t : ℕ) (es : List Entry) → LawfulBack start es →
+    ((d : ℕ) → Owns (mine_back start es d) shard m → d ≡ c) →
+    own_commits start shard c m t es ≡ commits_under start shard m t es
 all_own start shard c m t [] l one = refl
 all_own start shard c m t (e ∷ es) l one =
     same_counts (eqb e.client c) (is_commit_under (replay_back start es) shard m t e e.call) (own_commits start shard c m t es) (commits_under start shard m t es)
@@ -77,7 +81,8 @@ all_own start shard c m t (e ∷ es) l one =
     eq-eqb e.client c (one e.client (mine_older (λ (w : Answered). IsJoin shard m w.entry.call w.reply) start e es e.client owned)))
     (all_own start shard c m t es (lawful_older start e es l) (λ d o. one d (mine_older (λ (w : Answered). IsJoin shard m w.entry.call w.reply) start e es d o)))
 
-spent_back : (start : Stored) (shard : ShardId) (list : List Update) (es : List Entry) → StandsFor start shard list → LawfulBack start es → (number : ℕ) (last : ShardState) → LastIs (replay_back start es) shard number last →
+spent_back : (start : Stored) (shard : ShardId) (list : List Update) (es : List Entry) → StandsFor start shard list →
+    LawfulBack start es → (number : ℕ) (last : ShardState) → LastIs (replay_back start es) shard number last →
     (m : Member) → Among (λ u. u ≡ m) last.members → (c : ℕ) → Owns (mine_back start es c) shard m.number →
     (m.token ≢ 0 → (commits_under start shard m.number m.token es ≡ 1) × (own_commits start shard c m.number m.token es ≡ 1)) × ((t : ℕ) → m.token < t → commits_under start shard m.number t es ≡ 0)
 spent_back start shard list es st l number last is m among c owned =

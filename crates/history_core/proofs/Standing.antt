@@ -1,8 +1,6 @@
 -- In a lawful history the versions that ever were make a chain, and each member has one owner at most.
 use Rattle.std.proofs.Common.{◌≡◌, ℕ, ◌+◌, ◌<◌, ◌≤◌, true, List, [], ◌∷◌, ◌⊎◌, inl, inr, refl, arith, subst, sym, ap, ◌∙◌, Some, Option}
-use Rattle.state_core.specs.Lists.{Among}
 use Rattle.store_core.specs.declared.shards.ShardId.{ShardId}
-use Rattle.store_core.specs.declared.part_keys.PartKey.{PartKey}
 use Rattle.store_core.specs.declared.calls.Call.TheVariants as calls
 use Rattle.store_core.specs.declared.entries.Entry.{Entry}
 use Rattle.store_core.specs.Stores.{Log, Stored, no_log, next_number, committed}
@@ -15,7 +13,7 @@ use Rattle.state_core.specs.States.{ShardState}
 use Rattle.state_core.specs.Steps.{Applies, init}
 use Rattle.state_core.specs.VersionReading.{version_in}
 use Rattle.history_core.specs.Histories.{commits, ever}
-use Rattle.history_core.specs.Discipline.{IsJoin, Owns, IsCasUnder, Allows, LawfulBack}
+use Rattle.history_core.specs.Discipline.{IsJoin, Owns, Allows, LawfulBack}
 use Rattle.history_core.specs.Stands.{VersionIs, StateIn, end_of, IsLast, IsChain, KeysIn}
 use Rattle.state_core.proofs.Keys.{next_rises}
 use Rattle.history_core.proofs.Entries.{LogStep, idle, cuts, adds, log_step, among_mine, lawful_newest, lawful_older}
@@ -40,13 +38,15 @@ abbrev pub Standing : ShardId → Log → ℕ → Type 0
 Standing shard log start_member = ((log ≡ no_log) × (start_member ≡ 0)) ⊎ Kept shard log start_member
 
 -- the version before a commit is the newest
-pub from_last : (shard : ShardId) (log : Log) (start_member : ℕ) (bytes : List ℕ) (k : Kept shard log start_member) (c : Commit shard log bytes) → (c.n ≡ k.number) × (k.last ≡ c.from)
+pub from_last : (shard : ShardId) (log : Log) (start_member : ℕ) (bytes : List ℕ) (k : Kept shard log start_member)
+    (c : Commit shard log bytes) → (c.n ≡ k.number) × (k.last ≡ c.from)
 from_last shard log start_member bytes k c =
     let e : c.n ≡ k.number = (let a : (c.n + 1) ≡ end_of log = c.last in let b : (k.number + 1) ≡ end_of log = k.newest in omega arith) in
     let s2 = subst (λ (j : ℕ). StateIn shard log j c.from) e c.from_is in
     (e, (one_state shard log k.number k.last c.from k.state.0 s2.0 k.state.1 s2.1).0)
 
-pub kept_commit : (shard : ShardId) (log : Log) (start_member : ℕ) (bytes : List ℕ) → Kept shard log start_member → Commit shard log bytes → Kept shard (committed log bytes) start_member
+pub kept_commit : (shard : ShardId) (log : Log) (start_member : ℕ) (bytes : List ℕ) → Kept shard log start_member →
+    Commit shard log bytes → Kept shard (committed log bytes) start_member
 kept_commit shard log start_member bytes k c =
     let (e, same) = from_last shard log start_member bytes k c in
     let up : c.from.next_member ≤ c.to.next_member = next_rises c.from c.to c.step c.applies in
@@ -62,7 +62,8 @@ kept_commit shard log start_member bytes k c =
       bound = omega arith;
     }
 
-pub kept_first : (shard : ShardId) (start_member : ℕ) (bytes : List ℕ) → start_member ≡ 0 → version_in shard 0 bytes ≡ Some (init shard, Init) → Kept shard (committed no_log bytes) start_member
+pub kept_first : (shard : ShardId) (start_member : ℕ) (bytes : List ℕ) → start_member ≡ 0 →
+    version_in shard 0 bytes ≡ Some (init shard, Init) → Kept shard (committed no_log bytes) start_member
 kept_first shard start_member bytes zero_start d = record {
   number = 0;
   last = init shard;
@@ -78,10 +79,12 @@ module _ (start : Stored) (shard : ShardId) (z : (start.logs shard).versions ≡
   pub no_version : (log : Log) (n : ℕ) (s : ShardState) (x : Transition) → log ≡ no_log → VersionIs shard log n s x → ⊥
   no_version log n s x e h = let g = subst (λ (l : Log). VersionIs shard l n s x) e h in cc
 
-  pub standing_step : (e : Entry) (es : List Entry) → LawfulBack start (e ∷ es) → Standing shard (ever start shard es) start_member → Standing shard (ever start shard (e ∷ es)) start_member
+  pub standing_step : (e : Entry) (es : List Entry) → LawfulBack start (e ∷ es) →
+      Standing shard (ever start shard es) start_member → Standing shard (ever start shard (e ∷ es)) start_member
   standing_step e es l st = go (log_step shard (replay_back start es) e.call e.outcome)
     where
-      add : (expected : Option ℕ) (bytes : List ℕ) → e.call ≡ calls.Cas shard expected bytes → commits (live start shard es) expected ≡ true → Standing shard (committed (ever start shard es) bytes) start_member
+      add : (expected : Option ℕ) (bytes : List ℕ) → e.call ≡ calls.Cas shard expected bytes →
+          commits (live start shard es) expected ≡ true → Standing shard (committed (ever start shard es) bytes) start_member
       add expected bytes c k =
           elim (commit_of start shard z es e.client expected bytes k (subst (Allows (mine_back start es e.client)) c (lawful_newest start e es l))) [
             | inl f ↦ elim st [
@@ -100,11 +103,13 @@ module _ (start : Stored) (shard : ShardId) (z : (start.logs shard).versions ≡
       go (adds expected bytes c t k q g) = subst (λ (q : Log). Standing shard q start_member) (sym (g (ever start shard es))) (add expected bytes c k)
 
   -- in each lawful history the versions make a chain, and its keys are kept
-  pub standing : (es : List Entry) → LawfulBack start es → Standing shard (start.logs shard) start_member → Standing shard (ever start shard es) start_member
+  pub standing : (es : List Entry) → LawfulBack start es → Standing shard (start.logs shard) start_member →
+      Standing shard (ever start shard es) start_member
   standing [] l st = st
   standing (e ∷ es) l st = standing_step e es l (standing es (lawful_older start e es l) st)
 
-  pub owns_below : (es : List Entry) (k : Kept shard (ever start shard es) start_member) (c m : ℕ) → Owns (mine_back start es c) shard m → m < k.last.next_member
+  pub owns_below : (es : List Entry) (k : Kept shard (ever start shard es) start_member) (c m : ℕ) →
+      Owns (mine_back start es c) shard m → m < k.last.next_member
   owns_below es k c m o =
       let (n, s, x, is, number) = owned_version start shard z es c m o in
       let (low, high) = version_below shard (ever start shard es) n s x is in
@@ -115,7 +120,9 @@ module _ (start : Stored) (shard : ShardId) (z : (start.logs shard).versions ≡
       omega arith
 
   -- who joins takes the newest state's next member
-  new_owner : (e : Entry) (es : List Entry) → LawfulBack start (e ∷ es) → (st : Standing shard (ever start shard es) start_member) (m : ℕ) → IsJoin shard m e.call (reply_by (replay_back start es) e.call e.outcome) →
+  new_owner : (e : Entry) (es : List Entry) → LawfulBack start (e ∷ es) →
+      (st : Standing shard (ever start shard es) start_member) (m : ℕ) →
+      IsJoin shard m e.call (reply_by (replay_back start es) e.call e.outcome) →
       (k : Kept shard (ever start shard es) start_member) × (k.last.next_member ≡ m)
   new_owner e es l st m j =
       let w = joined shard (replay_back start es) e.call e.outcome m j in
@@ -125,7 +132,7 @@ module _ (start : Stored) (shard : ShardId) (z : (start.logs shard).versions ≡
             let at_zero : next_number w.expected ≡ 0 = ap next_number f.none in
             let r2 : version_in shard 0 w.bytes ≡ Some (s, Join kind now lease) = subst (λ (j2 : ℕ). version_in shard j2 w.bytes ≡ Some (s, Join kind now lease)) at_zero reads in
             let r3 = f.first in
-            let e2 : (init shard, Init) ≡ (s, Join kind now lease) = cc in
+            let e2 : ◌≡◌ {A = ShardState × Transition} (init shard, Init) (s, Join kind now lease) = cc in
             absurd (let e3 : Init ≡ Join kind now lease = ap (λ (p : ShardState × Transition). p.1) e2 in cc)
         | inr b ↦ elim st [
           | inl p ↦ absurd (no_version (ever start shard es) b.commit.n b.commit.from b.commit.from_is.0 p.0 b.commit.from_is.1)
@@ -135,7 +142,7 @@ module _ (start : Stored) (shard : ShardId) (z : (start.logs shard).versions ≡
               let at_end : next_number w.expected ≡ c.n + 1 = ap next_number b.number in
               let r2 : version_in shard (c.n + 1) w.bytes ≡ Some (s, Join kind now lease) = subst (λ (j2 : ℕ). version_in shard j2 w.bytes ≡ Some (s, Join kind now lease)) at_end reads in
               let r3 = c.written in
-              let e2 : (c.to, c.step) ≡ (s, Join kind now lease) = cc in
+              let e2 : ◌≡◌ {A = ShardState × Transition} (c.to, c.step) (s, Join kind now lease) = cc in
               let e3 : c.to ≡ s = ap (λ (p : ShardState × Transition). p.0) e2 in
               let e4 : c.step ≡ Join kind now lease = ap (λ (p : ShardState × Transition). p.1) e2 in
               let a : Applies c.from (Join kind now lease) c.to = subst (λ (y : Transition). Applies c.from y c.to) e4 c.applies in
@@ -174,11 +181,3 @@ module _ (start : Stored) (shard : ShardId) (z : (start.logs shard).versions ≡
           | inr a ↦ before.new c m a
         ];
       }
-
-  -- the entry is a Cas under the key's member and token
-  abbrev pub CasOf : PartKey → Answered → Type 0
-  CasOf key o = IsCasUnder shard key.member key.token o.entry.call
-
-  -- some client that owns the key's member has made a Cas under its member and token
-  abbrev pub Added : List Entry → PartKey → Type 0
-  Added es key = (c : ℕ) × Among (CasOf key) (mine_back start es c) × Owns (mine_back start es c) shard key.member

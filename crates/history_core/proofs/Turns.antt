@@ -26,15 +26,20 @@ use Rattle.history_core.proofs.Owners.{CommitBy, CommitsFirst, commit_of}
 
 -- what an entry of a lawful history does to the shard's versions, live and ever
 pub data Turn (start : Stored) (shard : ShardId) (e : Entry) (es : List Entry) : Type 0 where
-  still : ever start shard (e ∷ es) ≡ ever start shard es → live start shard (e ∷ es) ≡ live start shard es → Turn start shard e es
-  shorter : (below : ℕ) → e.call ≡ calls.Truncate shard below → ever start shard (e ∷ es) ≡ ever start shard es → live start shard (e ∷ es) ≡ truncated (live start shard es) below → Turn start shard e es
-  begins : (expected : Option ℕ) (bytes : List ℕ) → e.call ≡ calls.Cas shard expected bytes → CommitsFirst shard (ever start shard es) expected bytes →
+  still : ever start shard (e ∷ es) ≡ ever start shard es → live start shard (e ∷ es) ≡ live start shard es →
+      Turn start shard e es
+  shorter : (below : ℕ) → e.call ≡ calls.Truncate shard below → ever start shard (e ∷ es) ≡ ever start shard es →
+      live start shard (e ∷ es) ≡ truncated (live start shard es) below → Turn start shard e es
+  begins : (expected : Option ℕ) (bytes : List ℕ) → e.call ≡ calls.Cas shard expected bytes →
+      CommitsFirst shard (ever start shard es) expected bytes →
       ever start shard (e ∷ es) ≡ committed (ever start shard es) bytes → live start shard (e ∷ es) ≡ committed (live start shard es) bytes → Turn start shard e es
-  grows : (expected : Option ℕ) (bytes : List ℕ) → e.call ≡ calls.Cas shard expected bytes → took_effect e.outcome ≡ true → commits (live start shard es) expected ≡ true →
+  grows : (expected : Option ℕ) (bytes : List ℕ) → e.call ≡ calls.Cas shard expected bytes → took_effect e.outcome ≡ true →
+      commits (live start shard es) expected ≡ true →
       CommitBy (mine_back start es e.client) shard (ever start shard es) expected bytes →
       ever start shard (e ∷ es) ≡ committed (ever start shard es) bytes → live start shard (e ∷ es) ≡ committed (live start shard es) bytes → Turn start shard e es
 
-pub turn : (start : Stored) (shard : ShardId) → ((start.logs shard).versions ≡ [] → (start.logs shard).first ≡ 0) → (e : Entry) (es : List Entry) → LawfulBack start (e ∷ es) → Turn start shard e es
+pub turn : (start : Stored) (shard : ShardId) → ((start.logs shard).versions ≡ [] → (start.logs shard).first ≡ 0) →
+    (e : Entry) (es : List Entry) → LawfulBack start (e ∷ es) → Turn start shard e es
 turn start shard z e es l = go (log_step shard (replay_back start es) e.call e.outcome)
   where
     go : LogStep shard (replay_back start es) e.call e.outcome → Turn start shard e es
@@ -46,18 +51,16 @@ turn start shard z e es l = go (log_step shard (replay_back start es) e.call e.o
           | inr b ↦ grows expected bytes c t k b (g (ever start shard es)) q
         ]
 
-pub version_ever_on : (start : Stored) (shard : ShardId) (e : Entry) (es : List Entry) (n : ℕ) (s : ShardState) (x : Transition) → VersionIs shard (ever start shard es) n s x → VersionIs shard (ever start shard (e ∷ es)) n s x
+pub version_ever_on : (start : Stored) (shard : ShardId) (e : Entry) (es : List Entry) (n : ℕ) (s : ShardState)
+    (x : Transition) → VersionIs shard (ever start shard es) n s x → VersionIs shard (ever start shard (e ∷ es)) n s x
 version_ever_on start shard e es n s x h =
     let (b, there, reads) = bytes_of shard (ever start shard es) n s x h in
     version_is shard (ever start shard (e ∷ es)) n b s x (ever_on start shard e es n b there) reads
 
 -- what a version takes it goes on to take
-pub taken_ever_on : (start : Stored) (shard : ShardId) (e : Entry) (es : List Entry) (n : ℕ) (k : PartKey) → TakenIn shard (ever start shard es) n k → TakenIn shard (ever start shard (e ∷ es)) n k
+pub taken_ever_on : (start : Stored) (shard : ShardId) (e : Entry) (es : List Entry) (n : ℕ) (k : PartKey) →
+    TakenIn shard (ever start shard es) n k → TakenIn shard (ever start shard (e ∷ es)) n k
 taken_ever_on start shard e es n k t = (t.0, t.1, version_ever_on start shard e es n t.0 t.1 t.2, t.3)
-
--- a state goes on to be that of its version
-pub state_ever_on : (start : Stored) (shard : ShardId) (e : Entry) (es : List Entry) (n : ℕ) (s : ShardState) → StateIn shard (ever start shard es) n s → StateIn shard (ever start shard (e ∷ es)) n s
-state_ever_on start shard e es n s h = (h.0, version_ever_on start shard e es n s h.0 h.1)
 
 newest_among : (shard : ShardId) (vs : List Version) (s : ShardState) → NewestIs shard vs s →
     (n : ℕ) × (b : List ℕ) × (x : Transition) × Among (λ v. (v.number ≡ n) × (v.bytes ≡ b)) vs × (version_in shard n b ≡ Some (s, x))
@@ -72,7 +75,8 @@ taken_among shard top [] k h = absurd h
 taken_among shard top (v ∷ vs) k (inl h) = (v.number, v.bytes, inl (refl, refl), h.0, h.1)
 taken_among shard top (v ∷ vs) k (inr h) = let (n, b, among, le, t) = taken_among shard top vs k h in (n, b, inr among, le, t)
 
-takes-of : (o : Option (ShardState × Transition)) (k : PartKey) → TakesIn o k → (s : ShardState) × (x : Transition) × (o ≡ Some (s, x)) × Takes x k
+takes-of : (o : Option (ShardState × Transition)) (k : PartKey) → TakesIn o k →
+    (s : ShardState) × (x : Transition) × (o ≡ Some (s, x)) × Takes x k
 takes-of (Some (s, x)) k h = (s, x, refl, h)
 takes-of None k h = absurd h
 
@@ -85,7 +89,8 @@ pub record Shown (shard : ShardId) (k : PartKey) (log : Log) : Type 0 where
   pub state : StateIn shard log m s
   pub low : n ≤ floor s
 
-shown-by : (shard : ShardId) (k : PartKey) (log : Log) (call : Call) (r : Reply) → k.shard ≡ shard → ((n : ℕ) (b : List ℕ) → Told shard n b call r → version_at log n ≡ Some b) → IsScanTaking k call r → Shown shard k log
+shown-by : (shard : ShardId) (k : PartKey) (log : Log) (call : Call) (r : Reply) → k.shard ≡ shard →
+    ((n : ℕ) (b : List ℕ) → Told shard n b call r → version_at log n ≡ Some b) → IsScanTaking k call r → Shown shard k log
 shown-by shard k log (calls.Scan q from) (replies.Versions vs) e there h =
     let here : q ≡ shard = h.0 ∙ e in
     let (s, newest, taken) = h.1 in
@@ -119,11 +124,13 @@ shown-by shard k log (calls.Set q b) r e there h = absurd h
 shown-by shard k log (calls.Delete q) r e there h = absurd h
 
 -- what allows a Delete: the key was taken at a version not above a floor that was
-pub delete_shown : (start : Stored) (shard : ShardId) → ((start.logs shard).versions ≡ [] → (start.logs shard).first ≡ 0) → (es : List Entry) (c : ℕ) (k : PartKey) → k.shard ≡ shard →
+pub delete_shown : (start : Stored) (shard : ShardId) → ((start.logs shard).versions ≡ [] → (start.logs shard).first ≡ 0) →
+    (es : List Entry) (c : ℕ) (k : PartKey) → k.shard ≡ shard →
     Allows (mine_back start es c) (calls.Delete k) → Shown shard k (ever start shard es)
 delete_shown start shard z es c k e h = go (mine_back start es c) (λ n b g. shows_ever start shard z es c n b g) h
   where
-    go : (own : List Answered) → ((n : ℕ) (b : List ℕ) → Shows own shard n b → version_at (ever start shard es) n ≡ Some b) → Among (λ o. IsScanTaking k o.entry.call o.reply) own → Shown shard k (ever start shard es)
+    go : (own : List Answered) → ((n : ℕ) (b : List ℕ) → Shows own shard n b → version_at (ever start shard es) n ≡ Some b) →
+        Among (λ o. IsScanTaking k o.entry.call o.reply) own → Shown shard k (ever start shard es)
     go [] there g = absurd g
     go (p ∷ ps) there (inl g) = shown-by shard k (ever start shard es) p.entry.call p.reply e (λ n b t. there n b (inl t)) g
     go (p ∷ ps) there (inr g) = go ps (λ n b t. there n b (inr t)) g
@@ -135,7 +142,9 @@ pub record Covered (shard : ShardId) (below : ℕ) (log : Log) : Type 0 where
   pub state : StateIn shard log m s
   pub low : below ≤ floor s
 
-covered-by : (own : List Answered) (shard : ShardId) (below : ℕ) (log : Log) (call : Call) (r : Reply) → ((n : ℕ) (b : List ℕ) → Told shard n b call r → version_at log n ≡ Some b) → IsScanCovering own shard below call r → Covered shard below log
+covered-by : (own : List Answered) (shard : ShardId) (below : ℕ) (log : Log) (call : Call) (r : Reply) →
+    ((n : ℕ) (b : List ℕ) → Told shard n b call r → version_at log n ≡ Some b) → IsScanCovering own shard below call r →
+    Covered shard below log
 covered-by own shard below log (calls.Scan q from) (replies.Versions vs) there h =
     let (s, newest, le, deleted) = h.2 in
     let (m, b, x, among, reads) = newest_among shard vs s newest in
@@ -156,11 +165,14 @@ covered-by own shard below log (calls.Get q) r there h = absurd h
 covered-by own shard below log (calls.Set q b) r there h = absurd h
 covered-by own shard below log (calls.Delete q) r there h = absurd h
 
-pub truncate_covered : (start : Stored) (shard : ShardId) → ((start.logs shard).versions ≡ [] → (start.logs shard).first ≡ 0) → (es : List Entry) (c below : ℕ) →
+pub truncate_covered : (start : Stored) (shard : ShardId) → ((start.logs shard).versions ≡ [] → (start.logs shard).first ≡ 0) →
+    (es : List Entry) (c below : ℕ) →
     Allows (mine_back start es c) (calls.Truncate shard below) → Covered shard below (ever start shard es)
 truncate_covered start shard z es c below h = go (mine_back start es c) (λ n b g. shows_ever start shard z es c n b g) h
   where
-    go : (own : List Answered) → ((n : ℕ) (b : List ℕ) → Shows own shard n b → version_at (ever start shard es) n ≡ Some b) → Among (λ o. IsScanCovering (mine_back start es c) shard below o.entry.call o.reply) own → Covered shard below (ever start shard es)
+    go : (own : List Answered) → ((n : ℕ) (b : List ℕ) → Shows own shard n b → version_at (ever start shard es) n ≡ Some b) →
+        Among (λ o. IsScanCovering (mine_back start es c) shard below o.entry.call o.reply) own →
+        Covered shard below (ever start shard es)
     go [] there g = absurd g
     go (p ∷ ps) there (inl g) = covered-by (mine_back start es c) shard below (ever start shard es) p.entry.call p.reply (λ n b t. there n b (inl t)) g
     go (p ∷ ps) there (inr g) = go ps (λ n b t. there n b (inr t)) g

@@ -50,13 +50,15 @@ agree_truncated now all below a = record {
   first = a.first;
 }
 
-agree_step : (shard : ShardId) (before : Stored) (call : Call) (outcome : Outcome) (all : Log) → Agree (before.logs shard) all → LogStep shard before call outcome →
+agree_step : (shard : ShardId) (before : Stored) (call : Call) (outcome : Outcome) (all : Log) →
+    Agree (before.logs shard) all → LogStep shard before call outcome →
     Agree ((after_outcome before call outcome).logs shard) (grown shard (before.logs shard) call outcome all)
 agree_step shard before call outcome all a (idle q g) = rw (q, g all) a
 agree_step shard before call outcome all a (cuts below c q g) = rw (q, g all) (agree_truncated (before.logs shard) all below a)
 agree_step shard before call outcome all a (adds expected bytes c t k q g) = rw (q, g all) (agree_committed (before.logs shard) all bytes a)
 
-pub logs_agree : (start : Stored) (shard : ShardId) → ((start.logs shard).versions ≡ [] → (start.logs shard).first ≡ 0) → (es : List Entry) → Agree (live start shard es) (ever start shard es)
+pub logs_agree : (start : Stored) (shard : ShardId) → ((start.logs shard).versions ≡ [] → (start.logs shard).first ≡ 0) →
+    (es : List Entry) → Agree (live start shard es) (ever start shard es)
 logs_agree start shard z [] = record { next = refl; last = refl; old = λ n v h. h; first = z }
 logs_agree start shard z (e ∷ es) =
     agree_step shard (replay_back start es) e.call e.outcome (ever start shard es) (logs_agree start shard z es) (log_step shard (replay_back start es) e.call e.outcome)
@@ -73,7 +75,8 @@ live_first now all a e =
     omega arith
 
 -- a version that ever was goes on to be one
-pub ever_on : (start : Stored) (shard : ShardId) (e : Entry) (es : List Entry) (n : ℕ) (v : List ℕ) → version_at (ever start shard es) n ≡ Some v → version_at (ever start shard (e ∷ es)) n ≡ Some v
+pub ever_on : (start : Stored) (shard : ShardId) (e : Entry) (es : List Entry) (n : ℕ) (v : List ℕ) →
+    version_at (ever start shard es) n ≡ Some v → version_at (ever start shard (e ∷ es)) n ≡ Some v
 ever_on start shard e es n v h = go (log_step shard (replay_back start es) e.call e.outcome)
   where
     go : LogStep shard (replay_back start es) e.call e.outcome → version_at (ever start shard (e ∷ es)) n ≡ Some v
@@ -81,7 +84,9 @@ ever_on start shard e es n v h = go (log_step shard (replay_back start es) e.cal
     go (cuts below c q g) = rw (g (ever start shard es)) h
     go (adds expected bytes c t k q g) = rw (g (ever start shard es)) (committed_old (ever start shard es) bytes n v h)
 
-head_told : (shard at_shard : ShardId) (n : ℕ) (b : List ℕ) (o : Option Version) → Told shard n b (calls.Head at_shard) (replies.Version o) → (at_shard ≡ shard) × ((v : Version) × (o ≡ Some v) × (v.number ≡ n) × (v.bytes ≡ b))
+head_told : (shard at_shard : ShardId) (n : ℕ) (b : List ℕ) (o : Option Version) →
+    Told shard n b (calls.Head at_shard) (replies.Version o) → (at_shard ≡ shard) ×
+    ((v : Version) × (o ≡ Some v) × (v.number ≡ n) × (v.bytes ≡ b))
 head_told shard at_shard n b None t = absurd t
 head_told shard at_shard n b (Some v) t = (t.0, (v, refl, t.1, t.2))
 
@@ -92,7 +97,9 @@ pub record CasTold (shard at_shard : ShardId) (store : Stored) (expected : Optio
   pub text : bytes ≡ b
   pub commit : commits (store.logs at_shard) expected ≡ true
 
-pub cas_told : (shard at_shard : ShardId) (store : Stored) (expected : Option ℕ) (bytes : List ℕ) (n : ℕ) (b : List ℕ) → Told shard n b (calls.Cas at_shard expected bytes) (reply_of store (calls.Cas at_shard expected bytes)) → CasTold shard at_shard store expected bytes n b
+pub cas_told : (shard at_shard : ShardId) (store : Stored) (expected : Option ℕ) (bytes : List ℕ) (n : ℕ) (b : List ℕ) →
+    Told shard n b (calls.Cas at_shard expected bytes) (reply_of store (calls.Cas at_shard expected bytes)) →
+    CasTold shard at_shard store expected bytes n b
 cas_told shard at_shard store expected bytes n b t =
     elim (bool_cases (same_number expected (last_number (store.logs at_shard)))) [
       | inl e ↦
@@ -105,7 +112,8 @@ cas_told shard at_shard store expected bytes n b t =
       | inr e ↦ absurd (rw e at t)
     ]
 
-cas_next : (shard : ShardId) (store : Stored) → ((store.logs shard).versions ≡ [] → (store.logs shard).first ≡ 0) → (expected : Option ℕ) (bytes : List ℕ) (n : ℕ) (b : List ℕ) →
+cas_next : (shard : ShardId) (store : Stored) → ((store.logs shard).versions ≡ [] → (store.logs shard).first ≡ 0) →
+    (expected : Option ℕ) (bytes : List ℕ) (n : ℕ) (b : List ℕ) →
     next_number expected ≡ n → bytes ≡ b → commits (store.logs shard) expected ≡ true → version_at ((after_call store (calls.Cas shard expected bytes)).logs shard) n ≡ Some b
 cas_next shard store z expected bytes n b number text commit =
     let live = store.logs shard in
@@ -114,7 +122,8 @@ cas_next shard store z expected bytes n b number text commit =
     (subst (λ (m : ℕ). version_at (committed live bytes) m ≡ Some b) at_end (committed_new live bytes ∙ ap Some text))
 
 -- a version that a reply shows is live then
-pub told_next : (shard : ShardId) (store : Stored) → ((store.logs shard).versions ≡ [] → (store.logs shard).first ≡ 0) → (call : Call) (outcome : Outcome) (n : ℕ) (b : List ℕ) →
+pub told_next : (shard : ShardId) (store : Stored) → ((store.logs shard).versions ≡ [] → (store.logs shard).first ≡ 0) →
+    (call : Call) (outcome : Outcome) (n : ℕ) (b : List ℕ) →
     Told shard n b call (reply_by store call outcome) → version_at ((after_outcome store call outcome).logs shard) n ≡ Some b
 told_next shard store z (calls.Head s) Took n b t =
     let (here, rest) = head_told shard s n b _ t in
@@ -148,7 +157,8 @@ told_next shard store z (calls.Set k v) FailedLost n b t = absurd t
 told_next shard store z (calls.Delete k) FailedLost n b t = absurd t
 
 -- a number never has two versions: what any reply shows is the version that ever was
-pub shows_ever : (start : Stored) (shard : ShardId) → ((start.logs shard).versions ≡ [] → (start.logs shard).first ≡ 0) → (es : List Entry) (c n : ℕ) (b : List ℕ) →
+pub shows_ever : (start : Stored) (shard : ShardId) → ((start.logs shard).versions ≡ [] → (start.logs shard).first ≡ 0) →
+    (es : List Entry) (c n : ℕ) (b : List ℕ) →
     Shows (mine_back start es c) shard n b → version_at (ever start shard es) n ≡ Some b
 shows_ever start shard z [] c n b h = absurd h
 shows_ever start shard z (e ∷ es) c n b h =

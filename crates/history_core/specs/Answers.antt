@@ -43,37 +43,49 @@ pub record GreatestShown (own : List Answered) (shard : ShardId) (n : ℕ) : Typ
 -- the last version's, and a state that they show at it is the last version's state.
 abbrev pub NewestShown : Type 0
 NewestShown =
-    (shard : ShardId) (list : List Update) (h : History) (e : Entry) (n : ℕ) → StandsFor h.start shard list → Lawful (with_entry h e) → IsScanNear shard n e →
+    (shard : ShardId) (list : List Update) (h : History) (e : Entry) (n : ℕ) → StandsFor h.start shard list →
+    Lawful (with_entry h e) → IsScanNear shard n e →
     GreatestShown (own_of (with_entry h e) e.client) shard n → IsLast ((store_after (with_entry h e)).logs shard) n ×
-    ((s : ShardState) → ShowsState (own_of (with_entry h e) e.client) shard n s → StateAt (store_after (with_entry h e)) shard n s)
+    ((s : ShardState) → ShowsState (own_of (with_entry h e) e.client) shard n s →
+    StateAt (store_after (with_entry h e)) shard n s)
 
 -- What a client later gets from keys that the last state names is what is there now.
 abbrev pub LaterGets : Type 0
 LaterGets =
-    (shard : ShardId) (list : List Update) (h : History) (later : List Entry) → StandsFor h.start shard list → Lawful (with_entries h later) →
-    (number : ℕ) (last : ShardState) → LastIs (store_after h) shard number last → (c : ℕ) (keys : List PartKey) (rows : List Update) → AllByRecursion (Names last) keys →
+    (shard : ShardId) (list : List Update) (h : History) (later : List Entry) → StandsFor h.start shard list →
+    Lawful (with_entries h later) →
+    (number : ℕ) (last : ShardState) → LastIs (store_after h) shard number last →
+    (c : ℕ) (keys : List PartKey) (rows : List Update) → AllByRecursion (Names last) keys →
     Hold (GotAs (own_past h later c)) keys rows → PartRows (store_after h) keys rows
 
 -- From since on the rows that a client later gets from the parts of the batches that begin at a time or before it have the
 -- content of the accepted list.
 abbrev pub ContentGot : Type 0
 ContentGot =
-    (shard : ShardId) (list : List Update) (h : History) (later : List Entry) → StandsFor h.start shard list → Lawful (with_entries h later) →
-    (number : ℕ) (last : ShardState) → LastIs (store_after h) shard number last → (c t : ℕ) (rows : List Update) → last.since ≤ t → covers last.upper t ≡ true →
-    Hold (GotAs (own_past h later c)) (keys_of (begun_by t last.batches)) rows → sum_of rows t ≡ sum_of (accepted_of shard list h) t
+    (shard : ShardId) (list : List Update) (h : History) (later : List Entry) → StandsFor h.start shard list →
+    Lawful (with_entries h later) →
+    (number : ℕ) (last : ShardState) → LastIs (store_after h) shard number last → (c t : ℕ) (rows : List Update) →
+    last.since ≤ t → covers last.upper t ≡ true →
+    Hold (GotAs (own_past h later c)) (keys_of (begun_by t last.batches)) rows →
+    sum_of rows t ≡ sum_of (accepted_of shard list h) t
 
 -- Past since the rows that a client later gets from the parts of the batches that end past a time have the slice of the
 -- accepted list from that time on.
 abbrev pub SliceGot : Type 0
 SliceGot =
-    (shard : ShardId) (list : List Update) (h : History) (later : List Entry) → StandsFor h.start shard list → Lawful (with_entries h later) →
-    (number : ℕ) (last : ShardState) → LastIs (store_after h) shard number last → (c f : ℕ) (rows : List Update) → last.since < f →
-    Hold (GotAs (own_past h later c)) (keys_of (ending_past (Some f) last.batches)) rows → slice_of rows (Some f) last.upper ≡ slice_of (accepted_of shard list h) (Some f) last.upper
+    (shard : ShardId) (list : List Update) (h : History) (later : List Entry) → StandsFor h.start shard list →
+    Lawful (with_entries h later) →
+    (number : ℕ) (last : ShardState) → LastIs (store_after h) shard number last → (c f : ℕ) (rows : List Update) →
+    last.since < f →
+    Hold (GotAs (own_past h later c)) (keys_of (ending_past (Some f) last.batches)) rows →
+    slice_of rows (Some f) last.upper ≡ slice_of (accepted_of shard list h) (Some f) last.upper
 
 -- Where a client owns a member that stands in the last state with a token that isn't 0, exactly one entry committed under
 -- that token, and it is the client's. No entry did under a later token.
 abbrev pub TokenSpentOnce : Type 0
 TokenSpentOnce =
     (shard : ShardId) (list : List Update) (h : History) → StandsFor h.start shard list → Lawful h →
-    (number : ℕ) (last : ShardState) → LastIs (store_after h) shard number last → (m : Member) → Among (λ u. u ≡ m) last.members → (c : ℕ) → Owns (own_of h c) shard m.number →
-    (m.token ≢ 0 → (commits_under_of h shard m.number m.token ≡ 1) × (own_commits_of h shard c m.number m.token ≡ 1)) × ((t : ℕ) → m.token < t → commits_under_of h shard m.number t ≡ 0)
+    (number : ℕ) (last : ShardState) → LastIs (store_after h) shard number last → (m : Member) →
+    Among (λ u. u ≡ m) last.members → (c : ℕ) → Owns (own_of h c) shard m.number →
+    (m.token ≢ 0 → (commits_under_of h shard m.number m.token ≡ 1) × (own_commits_of h shard c m.number m.token ≡ 1)) ×
+    ((t : ℕ) → m.token < t → commits_under_of h shard m.number t ≡ 0)

@@ -37,7 +37,8 @@ JoinsAs _ member = ⊥
 
 -- a Cas with the Join of this member, answered Committed
 abbrev pub IsJoin : ShardId → ℕ → Call → Reply → Type 0
-IsJoin shard member (calls.Cas at_shard expected bytes) (replies.Committed n) = (at_shard ≡ shard) × JoinsAs (version_in shard n bytes) member
+IsJoin shard member (calls.Cas at_shard expected bytes) (replies.Committed n) =
+    (at_shard ≡ shard) × JoinsAs (version_in shard n bytes) member
 IsJoin _ _ _ _ = ⊥
 
 -- a client owns a member where its own Join of that member was answered Committed
@@ -56,7 +57,8 @@ SpendsIn None member token = ⊥
 
 -- a Cas, committed or not, that spends this token of this member
 abbrev pub IsCasUnder : ShardId → ℕ → ℕ → Call → Type 0
-IsCasUnder shard member token (calls.Cas at_shard (Some n) bytes) = (at_shard ≡ shard) × SpendsIn (version_in shard (n + 1) bytes) member token
+IsCasUnder shard member token (calls.Cas at_shard (Some n) bytes) =
+    (at_shard ≡ shard) × SpendsIn (version_in shard (n + 1) bytes) member token
 IsCasUnder _ _ _ _ = ⊥
 
 -- if it is a Set of the key, it has these bytes
@@ -96,7 +98,9 @@ pub record SetAllowed (own : List Answered) (key : PartKey) (bytes : List ℕ) :
 -- the parts in order hold these rows, by the bytes that P gives each key
 abbrev pub Hold : (PartKey → List ℕ → Type 0) → List PartKey → List Update → Type 0
 Hold P [] rows = rows ≡ []
-Hold P (k ∷ ks) rows = (b : List ℕ) × (first : List Update) × (rest : List Update) × P k b × (rows_in b ≡ Some first) × (rows ≡ first ++ rest) × Hold P ks rest
+Hold P (k ∷ ks) rows =
+    (b : List ℕ) × (first : List Update) × (rest : List Update) × P k b × (rows_in b ≡ Some first) ×
+    (rows ≡ first ++ rest) × Hold P ks rest
 
 -- The parts were stored, and hold rows that rise in the append's range: as many as it says, and of no more than its weight.
 pub record AppendHolds (own : List Answered) (expected : ℕ) (new : Option ℕ) (parts : List PartKey) (rows weight : ℕ) : Type 0 where
@@ -150,13 +154,18 @@ NewestIs shard (v ∷ w ∷ vs) s = NewestIs shard (w ∷ vs) s
 
 -- a Scan in which a version not above the floor of the last state takes the key
 abbrev pub IsScanTaking : PartKey → Call → Reply → Type 0
-IsScanTaking key (calls.Scan shard from) (replies.Versions vs) = (shard ≡ key.shard) × ((s : ShardState) × NewestIs shard vs s × TakenUpTo shard (floor s) vs key)
+IsScanTaking key (calls.Scan shard from) (replies.Versions vs) =
+    (shard ≡ key.shard) × ((s : ShardState) × NewestIs shard vs s × TakenUpTo shard (floor s) vs key)
 IsScanTaking _ _ _ = ⊥
+
+-- the client deleted the key
+abbrev pub DeletedBy : List Answered → PartKey → Type 0
+DeletedBy own k = Among (λ o. IsDeleted k o.entry.call o.reply) own
 
 -- each key that a version below the number takes was answered Deleted
 abbrev pub AllDeleted : List Answered → ShardId → ℕ → List Version → Type 0
 AllDeleted own shard below vs =
-    AllByRecursion (λ v. v.number < below → (k : PartKey) → TakesIn (version_in shard v.number v.bytes) k → Among (λ o. IsDeleted k o.entry.call o.reply) own) vs
+    AllByRecursion (λ v. v.number < below → (k : PartKey) → TakesIn (version_in shard v.number v.bytes) k → DeletedBy own k) vs
 
 -- a Scan from 0 whose floor isn't below the number, where each key that it shows taken below the number was answered Deleted
 abbrev pub IsScanCovering : List Answered → ShardId → ℕ → Call → Reply → Type 0

@@ -40,7 +40,8 @@ took_effect FailedLost = false
 -- a reply answers version n of the shard, with these bytes
 abbrev pub Told : ShardId → ℕ → List ℕ → Call → Reply → Type 0
 Told shard n b (calls.Head at_shard) (replies.Version (Some v)) = (at_shard ≡ shard) × (v.number ≡ n) × (v.bytes ≡ b)
-Told shard n b (calls.Scan at_shard from) (replies.Versions vs) = (at_shard ≡ shard) × Among (λ v. (v.number ≡ n) × (v.bytes ≡ b)) vs
+Told shard n b (calls.Scan at_shard from) (replies.Versions vs) =
+    (at_shard ≡ shard) × Among (λ v. (v.number ≡ n) × (v.bytes ≡ b)) vs
 Told shard n b (calls.Cas at_shard expected bytes) (replies.Committed m) = (at_shard ≡ shard) × (m ≡ n) × (bytes ≡ b)
 Told _ _ _ _ _ = ⊥
 

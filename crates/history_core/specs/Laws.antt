@@ -25,12 +25,14 @@ IsHeld last n = Among (λ m. (is_writer m.kind ≡ false) × (m.hold ≤ n)) las
 
 -- a Get of the key is answered with the bytes of a part
 abbrev pub IsAnswered : Stored → PartKey → Type 0
-IsAnswered store k = (b : List ℕ) × (rows : List Update) × (reply_of store (calls.Get k) ≡ replies.Bytes (Some b)) × (rows_in b ≡ Some rows)
+IsAnswered store k =
+    (b : List ℕ) × (rows : List Update) × (reply_of store (calls.Get k) ≡ replies.Bytes (Some b)) × (rows_in b ≡ Some rows)
 
 -- from a store that stands for a list, each lawful history leads to a store that stands for the accepted list
 abbrev pub LawfulStandsFor : Type 0
 LawfulStandsFor =
-    (shard : ShardId) (list : List Update) (h : History) → StandsFor h.start shard list → Lawful h → StandsFor (store_after h) shard (accepted_of shard list h)
+    (shard : ShardId) (list : List Update) (h : History) → StandsFor h.start shard list → Lawful h →
+    StandsFor (store_after h) shard (accepted_of shard list h)
 
 -- while a reader or keeper stands whose hold isn't above a version, that version is there and so is each part that it names
 abbrev pub LeasedPresent : Type 0
@@ -42,8 +44,10 @@ LeasedPresent =
 -- and its bytes are those that were there at any place before at which the version named it
 abbrev pub LeasedUnchanged : Type 0
 LeasedUnchanged =
-    (shard : ShardId) (list : List Update) (h : History) (later : List Entry) → StandsFor h.start shard list → Lawful (with_entries h later) →
-    (n : ℕ) (s : ShardState) (k : PartKey) (b : List ℕ) → StateAt (store_after h) shard n s → Names s k → (store_after h).blobs k ≡ Some b →
+    (shard : ShardId) (list : List Update) (h : History) (later : List Entry) → StandsFor h.start shard list →
+    Lawful (with_entries h later) →
+    (n : ℕ) (s : ShardState) (k : PartKey) (b : List ℕ) → StateAt (store_after h) shard n s → Names s k →
+    (store_after h).blobs k ≡ Some b →
     (number : ℕ) (last : ShardState) → LastIs (store_after (with_entries h later)) shard number last → IsHeld last n →
     reply_of (store_after (with_entries h later)) (calls.Get k) ≡ replies.Bytes (Some b)
 
@@ -54,5 +58,7 @@ LawfulPrefix = (h : History) (later : List Entry) → Lawful (with_entries h lat
 -- the floor of the last state never falls along a lawful history
 abbrev pub FloorNeverFalls : Type 0
 FloorNeverFalls =
-    (shard : ShardId) (list : List Update) (h : History) (later : List Entry) → StandsFor h.start shard list → Lawful (with_entries h later) →
-    (m n : ℕ) (s last : ShardState) → LastIs (store_after h) shard m s → LastIs (store_after (with_entries h later)) shard n last → floor s ≤ floor last
+    (shard : ShardId) (list : List Update) (h : History) (later : List Entry) → StandsFor h.start shard list →
+    Lawful (with_entries h later) →
+    (m n : ℕ) (s last : ShardState) → LastIs (store_after h) shard m s →
+    LastIs (store_after (with_entries h later)) shard n last → floor s ≤ floor last

@@ -22,13 +22,15 @@ is_spending _ member token = false
 -- whether an entry commits such a version
 abbrev pub is_commit_under : Stored → ShardId → ℕ → ℕ → Entry → Call → Bool
 is_commit_under store shard member token e (calls.Cas at_shard (Some n) bytes) =
-    (took_effect e.outcome && (same_shard at_shard shard && commits (store.logs shard) (Some n))) && is_spending (version_in shard (n + 1) bytes) member token
+    (took_effect e.outcome && (same_shard at_shard shard && commits (store.logs shard) (Some n))) &&
+    is_spending (version_in shard (n + 1) bytes) member token
 is_commit_under store shard member token e _ = false
 
 -- how many of the entries do, the newest of which comes first
 abbrev pub commits_under : Stored → ShardId → ℕ → ℕ → List Entry → ℕ
 commits_under start shard member token [] = 0
-commits_under start shard member token (e ∷ es) = (if is_commit_under (replay_back start es) shard member token e e.call then 1 else 0) + commits_under start shard member token es
+commits_under start shard member token (e ∷ es) =
+    (if is_commit_under (replay_back start es) shard member token e e.call then 1 else 0) + commits_under start shard member token es
 
 -- how many entries of a history do
 abbrev pub commits_under_of : History → ShardId → ℕ → ℕ → ℕ
@@ -38,7 +40,8 @@ commits_under_of h shard member token = commits_under h.start shard member token
 abbrev pub own_commits : Stored → ShardId → ℕ → ℕ → ℕ → List Entry → ℕ
 own_commits start shard client member token [] = 0
 own_commits start shard client member token (e ∷ es) =
-    (if (e.client == client) && is_commit_under (replay_back start es) shard member token e e.call then 1 else 0) + own_commits start shard client member token es
+    (if (e.client == client) && is_commit_under (replay_back start es) shard member token e e.call then 1 else 0) +
+    own_commits start shard client member token es
 
 -- how many of one client's entries in a history do
 abbrev pub own_commits_of : History → ShardId → ℕ → ℕ → ℕ → ℕ

@@ -49,12 +49,15 @@ TakenIn shard log n k = (s : ShardState) × (x : Transition) × VersionIs shard 
 
 -- Each version is of a state and a transition. Version 0 is Init and the first state. Each applies to the one before it.
 pub record IsChain (shard : ShardId) (log : Log) : Type 0 where
-  pub each : (n : ℕ) (b : List ℕ) → version_at log n ≡ Some b → (s : ShardState) × (x : Transition) × (version_in shard n b ≡ Some (s, x))
+  pub each : (n : ℕ) (b : List ℕ) → version_at log n ≡ Some b → (s : ShardState) × (x : Transition) ×
+      (version_in shard n b ≡ Some (s, x))
   pub first : (s : ShardState) (x : Transition) → VersionIs shard log 0 s x → (s ≡ init shard) × (x ≡ Init)
-  pub step : (n : ℕ) (s s2 : ShardState) (x x2 : Transition) → VersionIs shard log n s x → VersionIs shard log (n + 1) s2 x2 → Applies s x2 s2
+  pub step : (n : ℕ) (s s2 : ShardState) (x x2 : Transition) → VersionIs shard log n s x →
+      VersionIs shard log (n + 1) s2 x2 → Applies s x2 s2
 
 -- what the keys are that versions name by their states, and take
-pub record KeysKept (shard : ShardId) (State_at : ℕ → ShardState → Type 0) (Taken_at : ℕ → PartKey → Type 0) (last : ShardState) : Type 0 where
+pub record KeysKept (shard : ShardId) (State_at : ℕ → ShardState → Type 0) (Taken_at : ℕ → PartKey → Type 0)
+    (last : ShardState) : Type 0 where
   -- such a key has a member that the last state knows, and where that member stands its token isn't below the key's
   pub named : (n : ℕ) (s : ShardState) (k : PartKey) → State_at n s → Names s k → KeyFits shard last.next_member last.members k
   pub taken : (n : ℕ) (k : PartKey) → Taken_at n k → KeyFits shard last.next_member last.members k
@@ -77,7 +80,8 @@ IsPresent store k = (b : List ℕ) × (rows : List Update) × (store.blobs k ≡
 abbrev pub PartRows : Stored → List PartKey → List Update → Type 0
 PartRows store [] rows = rows ≡ []
 PartRows store (k ∷ ks) rows =
-    (b : List ℕ) × (first : List Update) × (rest : List Update) × (store.blobs k ≡ Some b) × (rows_in b ≡ Some first) × (rows ≡ first ++ rest) × PartRows store ks rest
+    (b : List ℕ) × (first : List Update) × (rest : List Update) × (store.blobs k ≡ Some b) × (rows_in b ≡ Some first) ×
+    (rows ≡ first ++ rest) × PartRows store ks rest
 
 -- the parts of a batch hold what the list has in its span, and as many rows as it says
 abbrev pub BatchHolds : Stored → List Update → Batch → Type 0
@@ -98,7 +102,8 @@ pub record Collection (store : Stored) (shard : ShardId) (list : List Update) : 
   -- each key that a version from the floor on names is there
   pub present : (n : ℕ) (s : ShardState) (k : PartKey) → floor last ≤ n → StateAt store shard n s → Names s k → IsPresent store k
   -- each batch of a version from the floor on holds its span
-  pub content : (n : ℕ) (s : ShardState) → floor last ≤ n → StateAt store shard n s → AllByRecursion (BatchHolds store list) s.batches
+  pub content : (n : ℕ) (s : ShardState) → floor last ≤ n → StateAt store shard n s →
+      AllByRecursion (BatchHolds store list) s.batches
   -- the last upper covers the list, which is no heavier than the last weight; that is 0 while upper is at 0
   pub before_upper : AllByRecursion (λ u. covers last.upper u.time ≡ true) list
   pub light : weight_of list ≤ last.weight
@@ -137,7 +142,8 @@ appended_by _ _ = []
 -- the rows that an entry appends to the shard's list: those of an Append that commits, as the bytes then under its keys hold them
 abbrev pub appended : Stored → ShardId → Entry → Call → List Update
 appended store shard e (calls.Cas at_shard (Some n) bytes) =
-    if took_effect e.outcome && (same_shard at_shard shard && commits (store.logs shard) (Some n)) then appended_by store (version_in shard (n + 1) bytes) else []
+    if took_effect e.outcome && (same_shard at_shard shard && commits (store.logs shard) (Some n))
+    then appended_by store (version_in shard (n + 1) bytes) else []
 appended _ _ _ _ = []
 
 -- the list, and then the rows of each Append that committed, of entries newest first
