@@ -1,10 +1,9 @@
 // Walk: what the entries of a trail tell by themselves, one after the other.
-ghost use Rattle.std.specs.Prelude.{◌≡◌, ◌++◌, Some, None, [], IfOk, OnOk};
+ghost use Rattle.std.specs.Prelude.{◌≡◌, ◌++◌, Some, None, [], List, Result, IfOk, OnOk};
 ghost use Rattle.store_core.specs.Stores.{key_cmp, set_at};
 ghost use Rattle.store_core.specs.Contents.{blobs_of};
 ghost use Rattle.state_core.specs.States.{ShardState};
 ghost use Rattle.state_core.specs.VersionReading.{version_in};
-ghost use Rattle.std.specs.Prelude.{List, Result};
 ghost use Rattle.std.specs.Result.{result_ok};
 ghost use Rattle.update_core.specs.declared.updates.Update.{Update};
 ghost use Rattle.part_codec.specs.Reading.{Fails};
@@ -58,7 +57,8 @@ fn number_given(last: Option<u64>, expected: Option<u64>) -> Option<u64>
 
 // No rows, unless memory was wanting.
 fn none_or_memory(alloc: Global, fault: PartFault) -> Result<UpdateList, AllocError>
-    ensures { (read : Result (List Update) PartFault) → Fails fault read → IfOk result (λ rows. rows ≡ rows_or_none (result_ok read)) }
+    ensures { (read : Result (List Update) PartFault) → Fails fault read
+        → IfOk result (λ rows. rows ≡ rows_or_none (result_ok read)) }
 {
     match fault {
         PartFault::Memory => Err(AllocError),
@@ -72,6 +72,7 @@ fn none_or_memory(alloc: Global, fault: PartFault) -> Result<UpdateList, AllocEr
     }
 }
 
+// The rows of a part, none where the bytes aren't one.
 fn rows_of(alloc: Global, bytes: &[u8]) -> Result<UpdateList, AllocError>
     ensures { IfOk result (λ rows. rows ≡ rows_or_none (rows_in bytes.now)) }
 {
@@ -81,6 +82,7 @@ fn rows_of(alloc: Global, bytes: &[u8]) -> Result<UpdateList, AllocError>
     }
 }
 
+// The state and transition of a version, if the bytes spell one.
 fn version_of(
     _alloc: Global,
     _shard: ShardId,
@@ -147,7 +149,8 @@ fn add_step(
     blobs: &BTreeMap<PartKey, Bytes>,
     step: &Transition,
 ) -> Result<(), AllocError>
-    ensures { (state : ShardState) → OnOk result (rows.new ≡ rows.old ++ appended_by (with_blobs (blobs_of blobs.now)) (Some (state, step.now))) }
+    ensures { (state : ShardState)
+        → OnOk result (rows.new ≡ rows.old ++ appended_by (with_blobs (blobs_of blobs.now)) (Some (state, step.now))) }
 {
     match step {
         Transition::Append { parts, .. } => add_parts(alloc, rows, blobs, parts.as_slice()),
