@@ -3,7 +3,9 @@ ghost use Rattle.std.specs.Prelude.{◌≡◌, ◌++◌, Some, None, [], List, R
 ghost use Rattle.store_core.specs.Stores.{key_cmp, set_at};
 ghost use Rattle.store_core.specs.Contents.{blobs_of};
 ghost use Rattle.state_core.specs.States.{ShardState};
-ghost use Rattle.state_core.specs.VersionReading.{version_in};
+ghost use Rattle.state_core.specs.VersionReading.{read_version, whole, version_in};
+ghost use Rattle.state_core.specs.VersionReading as versions;
+ghost use Rattle.state_core.specs.declared.transitions.Transition.{Transition as Step};
 ghost use Rattle.std.specs.Result.{result_ok};
 ghost use Rattle.update_core.specs.declared.updates.Update.{Update};
 ghost use Rattle.part_codec.specs.Reading.{Fails};
@@ -12,7 +14,7 @@ ghost use Rattle.history_core.specs.Stands.{appended_by, rows_under, rows_of_blo
 ghost use Rattle.history_core.specs.Walks.{number_given, number_past, rows_given, with_blobs};
 
 use part_codec::{PartFault, decode_part};
-use state_core::{State, Transition};
+use state_core::{State, Transition, VersionFault};
 use std::alloc::{AllocError, Global};
 use std::collections::BTreeMap;
 use store_core::{Bytes, Call, Entry, Outcome, PartKey, ShardId};
@@ -82,16 +84,48 @@ fn rows_of(alloc: Global, bytes: &[u8]) -> Result<UpdateList, AllocError>
     }
 }
 
-// The state and transition of a version, if the bytes spell one.
-fn version_of(
+// To be had from state_core once it is there.
+fn decode_version(
     _alloc: Global,
     _shard: ShardId,
     _number: u64,
-    _bytes: &Bytes,
-) -> Result<Option<(State, Transition)>, AllocError>
-    ensures { IfOk result (λ version. version ≡ version_in _shard _number _bytes.now) }
+    _bytes: &[u8],
+) -> Result<(State, Transition), VersionFault>
+    ensures exact { versions.Gives (λ found. found) result (read_version _shard _number _bytes.now) }
 {
-    Err(AllocError)
+    Err(VersionFault::Memory)
+}
+
+// No version, unless memory was wanting.
+fn no_version_or_memory(fault: VersionFault) -> Result<Option<(State, Transition)>, AllocError>
+    ensures { (read : Result (ShardState × Step) VersionFault) → versions.Fails fault read
+        → IfOk result (λ version. version ≡ whole read) }
+{
+    match fault {
+        VersionFault::Memory => Err(AllocError),
+        VersionFault::Short { .. }
+        | VersionFault::Magic { .. }
+        | VersionFault::Form { .. }
+        | VersionFault::Tag { .. }
+        | VersionFault::Rule { .. }
+        | VersionFault::Trailing { .. } => Ok(None),
+    }
+}
+
+// The state and transition of a version, if the bytes spell one.
+#[tactic(auto, unfolding(state_core::specs::VersionReading::version_in))]
+fn version_of(
+    alloc: Global,
+    shard: ShardId,
+    number: u64,
+    bytes: &[u8],
+) -> Result<Option<(State, Transition)>, AllocError>
+    ensures { IfOk result (λ version. version ≡ version_in shard number bytes.now) }
+{
+    match decode_version(alloc, shard, number, bytes) {
+        Ok(version) => Ok(Some(version)),
+        Err(fault) => no_version_or_memory(fault),
+    }
 }
 
 fn set_blob(
@@ -192,7 +226,7 @@ fn add_given(
     if expected.is_none() {
         return Ok(());
     }
-    let version = version_of(alloc, shard, number, bytes)?;
+    let version = version_of(alloc, shard, number, bytes.as_slice())?;
     add_version(alloc, rows, blobs, version)
 }
 
