@@ -36,3 +36,4 @@ pub mod ExampleLawful
 pub mod AnswerLaws
 pub mod GotLaws
 pub mod SpentLaws
+pub mod LastingLaws

@@ -10,3 +10,4 @@ pub mod Laws
 pub mod Example
 pub mod Spending
 pub mod Answers
+pub mod Lasting

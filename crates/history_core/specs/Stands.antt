@@ -21,6 +21,7 @@ use Rattle.state_core.specs.Steps.{Applies, Takes, init}
 use Rattle.state_core.specs.VersionReading.{version_in}
 use Rattle.history_core.specs.Readings.{rows_in}
 use Rattle.history_core.specs.Histories.{version_at, commits, took_effect, same_shard}
+use Rattle.history_core.specs.Discipline.{Hold}
 
 -- the state and transition that version n holds, where it is there
 abbrev pub read_version : ShardId → ℕ → Option (List ℕ) → Option (ShardState × Transition)
@@ -78,10 +79,7 @@ IsPresent store k = (b : List ℕ) × (rows : List Update) × (store.blobs k ≡
 
 -- the rows that the parts under these keys hold, in order
 abbrev pub PartRows : Stored → List PartKey → List Update → Type 0
-PartRows store [] rows = rows ≡ []
-PartRows store (k ∷ ks) rows =
-    (b : List ℕ) × (first : List Update) × (rest : List Update) × (store.blobs k ≡ Some b) × (rows_in b ≡ Some first) ×
-    (rows ≡ first ++ rest) × PartRows store ks rest
+PartRows store keys rows = Hold (λ k b. store.blobs k ≡ Some b) keys rows
 
 -- the parts of a batch hold what the list has in its span, and as many rows as it says
 abbrev pub BatchHolds : Stored → List Update → Batch → Type 0

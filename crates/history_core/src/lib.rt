@@ -4,6 +4,7 @@
 mod accepting;
 pub mod answer_laws;
 pub mod example_laws;
+pub mod lasting_laws;
 pub mod laws;
 pub mod part_laws;
 mod walks;

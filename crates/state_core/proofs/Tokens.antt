@@ -9,6 +9,7 @@ use Rattle.state_core.specs.declared.transitions.Transition.{Transition}
 use Rattle.state_core.specs.declared.transitions.Transition.TheVariants.{Init, Join, Leave, Renew, Advance, Expire, Append, Merge}
 use Rattle.state_core.specs.States.{ShardState, IsState, is_writer}
 use Rattle.state_core.specs.Steps.{Applies, Spends, without, unexpired, changed, is_out, Stands}
+use Rattle.state_core.specs.Tokens.{TokenAfter}
 use Rattle.state_core.proofs.Rules.{rise_of, one_stands}
 
 -- where a member of the next state comes from, and what became of its token
@@ -87,3 +88,11 @@ members_after s s2 (Append member token expected new parts rows weight) v r a h 
     spent_kept s (Append member token expected new parts rows weight) v member token _ (λ w. is_writer w.kind ≡ true) r (λ w. (refl, refl)) (λ m t q. q) (λ m t q. q) a.makes.stands (subst (λ (t : ShardState). Among (λ u. u ≡ v) t.members) a.makes.effect h)
 members_after s s2 (Merge member token left right merged) v r a h =
     spent_kept s (Merge member token left right merged) v member token _ (λ w. w.kind ≡ Keeper) r (λ w. (refl, refl)) (λ m t q. q) (λ m t q. q) a.makes.stands (subst (λ (t : ShardState). Among (λ u. u ≡ v) t.members) a.makes.effect h)
+
+after_is : (s : ShardState) (x : Transition) (v : Member) → After s x v → TokenAfter s x v
+after_is s x v (joined number none unspent) = inl (number, none)
+after_is s x v (stayed w among number token unspent) = inr (w, among, number, inl token)
+after_is s x v (spent w among number above spends only) = inr (w, among, number, inr (above, spends))
+
+pub token_after : (s s2 : ShardState) (x : Transition) (v : Member) → IsState s → Applies s x s2 → Among (λ u. u ≡ v) s2.members → TokenAfter s x v
+token_after s s2 x v r a h = after_is s x v (members_after s s2 x v r a h)

@@ -4,3 +4,4 @@ pub mod Steps
 pub mod Refusals
 pub mod Versions
 pub mod VersionReading
+pub mod Tokens

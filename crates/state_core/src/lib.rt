@@ -7,6 +7,7 @@ mod member_lists;
 mod members;
 mod refusals;
 mod states;
+pub mod token_laws;
 mod transitions;
 mod version_encoding;
 mod version_faults;
