@@ -34,7 +34,8 @@ use Rattle.history_core.proofs.Bases.{base_of}
 
 -- ---- a stored part was written
 
-stored_write : (k : PartKey) (b : List ℕ) (s : Stored) (call : Call) (outcome : Outcome) → IsStored k b call (reply_by s call outcome) → (took_effect outcome ≡ true) × IsWrite k call
+stored_write : (k : PartKey) (b : List ℕ) (s : Stored) (call : Call) (outcome : Outcome)
+    → IsStored k b call (reply_by s call outcome) → (took_effect outcome ≡ true) × IsWrite k call
 stored_write k b s (calls.Set q bytes) Took h = (refl, h.0)
 stored_write k b s (calls.Set q bytes) FailedTook h = absurd h
 stored_write k b s (calls.Set q bytes) FailedLost h = absurd h
@@ -45,7 +46,8 @@ stored_write k b s (calls.Truncate d below) outcome h = absurd h
 stored_write k b s (calls.Get q) outcome h = absurd h
 stored_write k b s (calls.Delete q) outcome h = absurd h
 
-stored_written : (start : Stored) (es : List Entry) (c : ℕ) (k : PartKey) (b : List ℕ) → StoredAs (mine_back start es c) k b → IsWritten k es
+stored_written : (start : Stored) (es : List Entry) (c : ℕ) (k : PartKey) (b : List ℕ) → StoredAs (mine_back start es c) k b
+    → IsWritten k es
 stored_written start [] c k b h = absurd h
 stored_written start (e ∷ es) c k b h = elim (among_mine (λ o. IsStored k b o.entry.call o.reply) start e es c h) [
   | inl p ↦ inl (stored_write k b (replay_back start es) e.call e.outcome p.1)
@@ -59,7 +61,8 @@ held_rows : (f : PartKey → Option (List ℕ)) (s : Stored) (P : PartKey → Li
 held_rows f s P [] rows same h = refl
 held_rows f s P (k ∷ ks) rows same h = λ i. rows_of_blob (same k h.0 h.3 i) ++ held_rows f s P ks h.2 same h.6 i
 
-step_rows : (f : PartKey → Option (List ℕ)) (s : Stored) (own : List Answered) (to : ShardState) (step : Transition) → ((k : PartKey) (b : List ℕ) → StoredAs own k b → f k ≡ s.blobs k)
+step_rows : (f : PartKey → Option (List ℕ)) (s : Stored) (own : List Answered) (to : ShardState) (step : Transition)
+    → ((k : PartKey) (b : List ℕ) → StoredAs own k b → f k ≡ s.blobs k)
     → Holds own step → appended_by (with_blobs f) (Some (to, step)) ≡ appended_by s (Some (to, step))
 step_rows f s own to Init same h = refl
 step_rows f s own to (Join kind now lease) same h = refl
@@ -77,7 +80,8 @@ record StandsStill (w v : Walked) : Type 0 where
   pub last : v.last ≡ w.last
   pub rows : v.rows ≡ w.rows
 
-still_call : (w : Walked) (call : Call) (outcome : Outcome) → took_effect outcome && is_cas call ≡ false → StandsStill w (cond (took_effect outcome) (walk_call w call) w)
+still_call : (w : Walked) (call : Call) (outcome : Outcome) → took_effect outcome && is_cas call ≡ false
+    → StandsStill w (cond (took_effect outcome) (walk_call w call) w)
 still_call w call FailedLost h = record { last = refl; rows = refl }
 still_call w (calls.Head d) Took h = record { last = refl; rows = refl }
 still_call w (calls.Scan d from) Took h = record { last = refl; rows = refl }
@@ -94,7 +98,8 @@ still_call w (calls.Get q) FailedTook h = record { last = refl; rows = refl }
 still_call w (calls.Set q bytes) FailedTook h = record { last = refl; rows = refl }
 still_call w (calls.Delete q) FailedTook h = record { last = refl; rows = refl }
 
-appended_still : (store : Stored) (shard : ShardId) (e : Entry) (call : Call) → took_effect e.outcome && is_cas call ≡ false → appended store shard e call ≡ []
+appended_still : (store : Stored) (shard : ShardId) (e : Entry) (call : Call) → took_effect e.outcome && is_cas call ≡ false
+    → appended store shard e call ≡ []
 appended_still store shard e (calls.Cas d (Some n) bytes) h = lost (took_effect e.outcome) (same_shard d shard && commits (store.logs shard) (Some n)) h
   where
     lost : (a b : Bool) → a && true ≡ false → cond (a && b) (appended_by store (version_in shard (n + 1) bytes)) [] ≡ []
@@ -108,10 +113,12 @@ appended_still store shard e (calls.Get q) h = refl
 appended_still store shard e (calls.Set q bytes) h = refl
 appended_still store shard e (calls.Delete q) h = refl
 
-last_still : (shard : ShardId) (store : Stored) (call : Call) (outcome : Outcome) → took_effect outcome && is_cas call ≡ false → last_number ((after_outcome store call outcome).logs shard) ≡ last_number (store.logs shard)
+last_still : (shard : ShardId) (store : Stored) (call : Call) (outcome : Outcome) → took_effect outcome && is_cas call ≡ false
+    → last_number ((after_outcome store call outcome).logs shard) ≡ last_number (store.logs shard)
 last_still shard store call outcome h = go (log_step shard store call outcome)
   where
-    go : LogStep shard store call outcome → last_number ((after_outcome store call outcome).logs shard) ≡ last_number (store.logs shard)
+    go : LogStep shard store call outcome
+        → last_number ((after_outcome store call outcome).logs shard) ≡ last_number (store.logs shard)
     go (idle q g) = ap last_number q
     go (cuts below c q g) = ap last_number q ∙ last_number-truncated (store.logs shard) below
     go (adds expected bytes c t k q g) = absurd (let f : true && is_cas (calls.Cas shard expected bytes) ≡ false = (λ i. sym t i && is_cas (sym c i)) ∙ h in cc)
@@ -147,14 +154,17 @@ took_cas shard e h names =
     let named : c.shard ≡ shard = subst (NamesShard shard) c.is names in
     record { took = t; expected = c.expected; bytes = c.bytes; is = c.is ∙ ap (λ (d : ShardId). calls.Cas d c.expected c.bytes) named }
 
-walk_cas : (w : Walked) (shard : ShardId) (e : Entry) (c : TookCas shard e) → walk_entry w e ≡ after_given w shard c.expected c.bytes (number_given w.last c.expected)
+walk_cas : (w : Walked) (shard : ShardId) (e : Entry) (c : TookCas shard e)
+    → walk_entry w e ≡ after_given w shard c.expected c.bytes (number_given w.last c.expected)
 walk_cas w shard e c = ap (λ (b : Bool). cond b (walk_call w e.call) w) c.took ∙ ap (walk_call w) c.is
 
 log_cas : (store : Stored) (shard : ShardId) (e : Entry) (c : TookCas shard e)
     → (after_outcome store e.call e.outcome).logs shard ≡ cond (commits (store.logs shard) c.expected) (committed (store.logs shard) c.bytes) (store.logs shard)
-log_cas store shard e c = effect e.outcome c.took ∙ ap (λ (q : Call). (after_call store q).logs shard) c.is ∙ here ∙ cas_log_is (store.logs shard) c.expected c.bytes
+log_cas store shard e c = effect e.outcome c.took ∙ ap (λ (q : Call). (after_call store q).logs shard) c.is ∙ here
+    ∙ cas_log_is (store.logs shard) c.expected c.bytes
   where
-    effect : (o : Outcome) → took_effect o ≡ true → (after_outcome store e.call o).logs shard ≡ (after_call store e.call).logs shard
+    effect : (o : Outcome) → took_effect o ≡ true
+        → (after_outcome store e.call o).logs shard ≡ (after_call store e.call).logs shard
     effect Took h = refl
     effect FailedTook h = refl
     effect FailedLost h = absurd (cc)
@@ -162,7 +172,8 @@ log_cas store shard e c = effect e.outcome c.took ∙ ap (λ (q : Call). (after_
     here : (after_call store (calls.Cas shard c.expected c.bytes)).logs shard ≡ cas_log (store.logs shard) c.expected c.bytes
     here = ap (λ (b : Bool). cond b (cas_log (store.logs shard) c.expected c.bytes) (store.logs shard)) (shard_same shard)
 
-appended_lost : (store : Stored) (shard : ShardId) (e : Entry) (expected : Option ℕ) (bytes : List ℕ) → commits (store.logs shard) expected ≡ false → appended store shard e (calls.Cas shard expected bytes) ≡ []
+appended_lost : (store : Stored) (shard : ShardId) (e : Entry) (expected : Option ℕ) (bytes : List ℕ)
+    → commits (store.logs shard) expected ≡ false → appended store shard e (calls.Cas shard expected bytes) ≡ []
 appended_lost store shard e None bytes h = refl
 appended_lost store shard e (Some n) bytes h = lost (took_effect e.outcome) (same_shard shard shard) (commits (store.logs shard) (Some n)) h
   where
@@ -173,7 +184,8 @@ appended_lost store shard e (Some n) bytes h = lost (took_effect e.outcome) (sam
 
 module _ (start : Stored) (shard : ShardId) (list : List Update) (z : (start.logs shard).versions ≡ [] → (start.logs shard).first ≡ 0) where
   -- the number after the last one ends the log
-  end_is : (es : List Entry) (expected : Option ℕ) → commits (live start shard es) expected ≡ true → end_of (live start shard es) ≡ next_number expected
+  end_is : (es : List Entry) (expected : Option ℕ) → commits (live start shard es) expected ≡ true
+      → end_of (live start shard es) ≡ next_number expected
   end_is es (Some n) k = sym (commits_some (live start shard es) n k)
   end_is es None k =
       let agree = logs_agree start shard z es in
@@ -194,7 +206,8 @@ module _ (start : Stored) (shard : ShardId) (list : List Update) (z : (start.log
   sees_still e es old t =
       let same = still_call (walk_back list es) e.call e.outcome t in
       record {
-        rows = same.rows ∙ old.rows ∙ sym (ap (λ (us : List Update). accepted shard list start es ++ us) (appended_still (replay_back start es) shard e e.call t) ∙ append-nil (accepted shard list start es));
+        rows = same.rows ∙ old.rows
+            ∙ sym (ap (λ (us : List Update). accepted shard list start es ++ us) (appended_still (replay_back start es) shard e e.call t) ∙ append-nil (accepted shard list start es));
         last = λ n h. last_still shard (replay_back start es) e.call e.outcome t ∙ old.last n (sym same.last ∙ h);
         none = λ h. (t, old.none (sym same.last ∙ h));
       }
@@ -210,7 +223,8 @@ module _ (start : Stored) (shard : ShardId) (list : List Update) (z : (start.log
     L = live start shard es
 
     -- the rows that the walk adds are those that the entry appends
-    rows_same : (expected : Option ℕ) (bytes : List ℕ) → e.call ≡ calls.Cas shard expected bytes → commits L expected ≡ true → rows_given W.blobs shard expected (next_number expected) bytes ≡ appended S shard e e.call
+    rows_same : (expected : Option ℕ) (bytes : List ℕ) → e.call ≡ calls.Cas shard expected bytes → commits L expected ≡ true
+        → rows_given W.blobs shard expected (next_number expected) bytes ≡ appended S shard e e.call
     rows_same None bytes is k = sym (appended_none S shard e e.call None bytes is refl)
     rows_same (Some n) bytes is k =
         let m : CasAllowed (mine_back start es e.client) shard n bytes = subst (Allows (mine_back start es e.client)) is (lawful_newest start e es l) in
@@ -230,13 +244,15 @@ module _ (start : Stored) (shard : ShardId) (list : List Update) (z : (start.log
           none = λ h. absurd (let f : Some (next_number c.expected) ≡ None = sym last_is ∙ h in cc);
         }
 
-    sees_lost : number_given W.last c.expected ≡ None → commits L c.expected ≡ false → (W.last ≡ None → commits L c.expected ≡ true) → Sees (e ∷ es)
+    sees_lost : number_given W.last c.expected ≡ None → commits L c.expected ≡ false
+        → (W.last ≡ None → commits L c.expected ≡ true) → Sees (e ∷ es)
     sees_lost given k first =
         let now : walk_entry W e ≡ W = walk_cas W shard e c ∙ ap (after_given W shard c.expected c.bytes) given in
         let log_is : live start shard (e ∷ es) ≡ L = log_cas S shard e c ∙ ap (λ (b : Bool). cond b (committed L c.bytes) L) k in
         let nothing : appended S shard e e.call ≡ [] = ap (appended S shard e) c.is ∙ appended_lost S shard e c.expected c.bytes k in
         record {
-          rows = ap (λ (v : Walked). v.rows) now ∙ old.rows ∙ sym (ap (λ (us : List Update). accepted shard list start es ++ us) nothing ∙ append-nil (accepted shard list start es));
+          rows = ap (λ (v : Walked). v.rows) now ∙ old.rows
+              ∙ sym (ap (λ (us : List Update). accepted shard list start es ++ us) nothing ∙ append-nil (accepted shard list start es));
           last = λ n h. ap last_number log_is ∙ old.last n (sym (ap (λ (v : Walked). v.last) now) ∙ h);
           none = λ h. absurd (let f : commits L c.expected ≡ true = first (sym (ap (λ (v : Walked). v.last) now) ∙ h) in cc);
         }
@@ -251,7 +267,8 @@ module _ (start : Stored) (shard : ShardId) (list : List Update) (z : (start.log
         ]
 
   -- in each lawful trail whose first Cas that takes effect commits, the walk's rows are the accepted list
-  sees : (es : List Entry) → LawfulBack start es → AllByRecursion (λ e. NamesShard shard e.call) es → FirstBack start shard es → Sees es
+  sees : (es : List Entry) → LawfulBack start es → AllByRecursion (λ e. NamesShard shard e.call) es → FirstBack start shard es
+      → Sees es
   sees [] l names first = record { rows = refl; last = λ n h. absurd (cc); none = λ h. tt }
   sees (e ∷ es) l names first =
       let old = sees es (lawful_older start e es l) names.1 first.1 in
@@ -260,11 +277,13 @@ module _ (start : Stored) (shard : ShardId) (list : List Update) (z : (start.log
         | inr t ↦ sees_still e es old t
       ]
 
-  pub walk_rows : (es : List Entry) → LawfulBack start es → AllByRecursion (λ e. NamesShard shard e.call) es → FirstBack start shard es → (walk_back list es).rows ≡ accepted shard list start es
+  pub walk_rows : (es : List Entry) → LawfulBack start es → AllByRecursion (λ e. NamesShard shard e.call) es
+      → FirstBack start shard es → (walk_back list es).rows ≡ accepted shard list start es
   walk_rows es l names first = (sees es l names first).rows
 
 -- from whatever store a trail began, the rows of a walk over it are the accepted list
-pub walk_accepts : (origin : Stored) (shard : ShardId) (list : List Update) (trail : List Entry) → IsOriginOf origin shard list trail
+pub walk_accepts : (origin : Stored) (shard : ShardId) (list : List Update) (trail : List Entry)
+    → IsOriginOf origin shard list trail
     → (walk_back list (reverse trail)).rows ≡ accepted_of shard list (record { start = origin; trail = trail })
 walk_accepts origin shard list trail o =
     walk_rows origin shard list (base_of origin shard list o.stands).begin.first (reverse trail) (lawful_back (record { start = origin; trail = trail }) o.lawful)

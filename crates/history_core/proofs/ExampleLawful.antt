@@ -25,7 +25,8 @@ use Rattle.history_core.specs.Stands.{StandsFor, accepted_of}
 use Rattle.history_core.proofs.LawfulLaws.{lawful_law}
 
 -- what each client that occurs did is what every client did
-lawful_of : (start : Stored) (es : List Entry) → AllByRecursion (λ e. OwnLawful (mine_back start es e.client)) es → LawfulBack start es
+lawful_of : (start : Stored) (es : List Entry) → AllByRecursion (λ e. OwnLawful (mine_back start es e.client)) es
+    → LawfulBack start es
 lawful_of start es h n = go (occurs es)
   where
     occurs : (fs : List Entry) → Among (λ e. e.client ≡ n) fs ⊎ (mine_back start fs n ≡ [])
@@ -46,16 +47,20 @@ one_two : ◌≡◌ {A = ℕ} 1 2 → ⊥
 one_two e = omega arith
 
 -- what is read of a version
-joins_by : (o : Option (ShardState × Transition)) (s : ShardState) (x : Transition) (member : ℕ) → o ≡ Some (s, x) → JoinsAs (Some (s, x)) member → JoinsAs o member
+joins_by : (o : Option (ShardState × Transition)) (s : ShardState) (x : Transition) (member : ℕ) → o ≡ Some (s, x)
+    → JoinsAs (Some (s, x)) member → JoinsAs o member
 joins_by o s x member is h = subst (λ (v : Option (ShardState × Transition)). JoinsAs v member) (sym is) h
 
-spends_by : (o : Option (ShardState × Transition)) (s : ShardState) (x : Transition) (member token : ℕ) → o ≡ Some (s, x) → SpendsIn o member token → SpendsIn (Some (s, x)) member token
+spends_by : (o : Option (ShardState × Transition)) (s : ShardState) (x : Transition) (member token : ℕ) → o ≡ Some (s, x)
+    → SpendsIn o member token → SpendsIn (Some (s, x)) member token
 spends_by o s x member token is h = subst (λ (v : Option (ShardState × Transition)). SpendsIn v member token) is h
 
-takes_by : (o : Option (ShardState × Transition)) (s : ShardState) (x : Transition) (k : PartKey) → o ≡ Some (s, x) → TakesIn (Some (s, x)) k → TakesIn o k
+takes_by : (o : Option (ShardState × Transition)) (s : ShardState) (x : Transition) (k : PartKey) → o ≡ Some (s, x)
+    → TakesIn (Some (s, x)) k → TakesIn o k
 takes_by o s x k is h = subst (λ (v : Option (ShardState × Transition)). TakesIn v k) (sym is) h
 
-takes_of : (o : Option (ShardState × Transition)) (s : ShardState) (x : Transition) (k : PartKey) → o ≡ Some (s, x) → TakesIn o k → TakesIn (Some (s, x)) k
+takes_of : (o : Option (ShardState × Transition)) (s : ShardState) (x : Transition) (k : PartKey) → o ≡ Some (s, x) → TakesIn o k
+    → TakesIn (Some (s, x)) k
 takes_of o s x k is h = subst (λ (v : Option (ShardState × Transition)). TakesIn v k) is h
 
 cons_both : IsCons (moved (seven_at_1 ∷ eight_at_6 ∷ []) 0) (seven_at_1 ∷ eight_at_6 ∷ [])

@@ -26,7 +26,8 @@ use Rattle.history_core.proofs.Entries.{key_same}
 -- one more entry of a trail
 pub one_more_entry : (list : List Update) (trail : List Entry) (i : ℕ) (d : Entry) → i < length trail
     → walk_back list (reverse (take (i + 1) trail)) ≡ walk_entry (walk_back list (reverse (take i trail))) (get_or trail i d)
-one_more_entry list trail i d lt = ap (λ (es : List Entry). walk_back list (reverse es)) (take_more trail i d lt) ∙ ap (walk_back list) (newest-first (take i trail) (get_or trail i d))
+one_more_entry list trail i d lt = ap (λ (es : List Entry). walk_back list (reverse es)) (take_more trail i d lt)
+    ∙ ap (walk_back list) (newest-first (take i trail) (get_or trail i d))
 
 -- ---- entries of which the newest comes first
 
@@ -39,7 +40,8 @@ abbrev pub FirstBack : Stored → ShardId → List Entry → Type 0
 FirstBack start shard [] = Unit {0}
 FirstBack start shard (e ∷ es) = (NoCas es → takes_cas e ≡ true → CommitsAt (replay_back start es) shard e.call) × FirstBack start shard es
 
-first_oldest_cas : (s : Stored) (shard : ShardId) (es : List Entry) (e : Entry) → takes_cas e ≡ true → CommitsAt s shard e.call → FirstBack s shard (es ++ e ∷ [])
+first_oldest_cas : (s : Stored) (shard : ShardId) (es : List Entry) (e : Entry) → takes_cas e ≡ true → CommitsAt s shard e.call
+    → FirstBack s shard (es ++ e ∷ [])
 first_oldest_cas s shard [] e t c = ((λ none u. c), tt)
 first_oldest_cas s shard (x ∷ es) e t c = ((λ none u. absurd (some es none)), first_oldest_cas s shard es e t c)
   where
@@ -47,7 +49,8 @@ first_oldest_cas s shard (x ∷ es) e t c = ((λ none u. absurd (some es none)),
     some [] h = let a = h.0 in cc
     some (y ∷ es) h = some es h.1
 
-first_oldest_other : (s : Stored) (shard : ShardId) (es : List Entry) (e : Entry) → takes_cas e ≡ false → FirstBack (next s e) shard es → FirstBack s shard (es ++ e ∷ [])
+first_oldest_other : (s : Stored) (shard : ShardId) (es : List Entry) (e : Entry) → takes_cas e ≡ false
+    → FirstBack (next s e) shard es → FirstBack s shard (es ++ e ∷ [])
 first_oldest_other s shard [] e t c = ((λ none u. absurd (cc)), tt)
 first_oldest_other s shard (x ∷ es) e t c =
     ((λ none u. subst (λ (q : Stored). CommitsAt q shard x.call) (sym (replay_back-oldest s es e)) (c.0 (each_front (λ y. takes_cas y ≡ false) es (e ∷ []) none) u)), first_oldest_other s shard es e t c.1)
@@ -77,7 +80,8 @@ IsWrite k _ = ⊥
 abbrev pub IsWritten : PartKey → List Entry → Type 0
 IsWritten k es = Among (λ e. (took_effect e.outcome ≡ true) × IsWrite k e.call) es
 
-given_blobs : (w : Walked) (shard : ShardId) (expected : Option ℕ) (bytes : List ℕ) (o : Option ℕ) → (after_given w shard expected bytes o).blobs ≡ w.blobs
+given_blobs : (w : Walked) (shard : ShardId) (expected : Option ℕ) (bytes : List ℕ) (o : Option ℕ)
+    → (after_given w shard expected bytes o).blobs ≡ w.blobs
 given_blobs w shard expected bytes None = refl
 given_blobs w shard expected bytes (Some n) = refl
 
@@ -91,7 +95,8 @@ module _ (w : Walked) (s : Stored) (k : PartKey) where
   keeps_call (calls.Set q bytes) h = ap (λ (x : Option (List ℕ)). cond (is_eq (key_cmp q k)) (Some bytes) x) h
   keeps_call (calls.Delete q) h = ap (λ (x : Option (List ℕ)). cond (is_eq (key_cmp q k)) None x) h
 
-  keeps_outcome : (call : Call) (outcome : Outcome) → w.blobs k ≡ s.blobs k → (cond (took_effect outcome) (walk_call w call) w).blobs k ≡ (after_outcome s call outcome).blobs k
+  keeps_outcome : (call : Call) (outcome : Outcome) → w.blobs k ≡ s.blobs k
+      → (cond (took_effect outcome) (walk_call w call) w).blobs k ≡ (after_outcome s call outcome).blobs k
   keeps_outcome call Took h = keeps_call call h
   keeps_outcome call FailedTook h = keeps_call call h
   keeps_outcome call FailedLost h = h
@@ -110,13 +115,15 @@ module _ (w : Walked) (s : Stored) (k : PartKey) where
   writes_call (calls.Set q bytes) h = here q (Some bytes) (w.blobs k) (s.blobs k) h
   writes_call (calls.Delete q) h = here q None (w.blobs k) (s.blobs k) h
 
-  writes_outcome : (call : Call) (outcome : Outcome) → took_effect outcome ≡ true → IsWrite k call → (cond (took_effect outcome) (walk_call w call) w).blobs k ≡ (after_outcome s call outcome).blobs k
+  writes_outcome : (call : Call) (outcome : Outcome) → took_effect outcome ≡ true → IsWrite k call
+      → (cond (took_effect outcome) (walk_call w call) w).blobs k ≡ (after_outcome s call outcome).blobs k
   writes_outcome call Took t h = writes_call call h
   writes_outcome call FailedTook t h = writes_call call h
   writes_outcome call FailedLost t h = absurd (cc)
 
 -- a walk knows the bytes of each key that was written
-pub bytes_known : (list : List Update) (start : Stored) (es : List Entry) (k : PartKey) → IsWritten k es → (walk_back list es).blobs k ≡ (replay_back start es).blobs k
+pub bytes_known : (list : List Update) (start : Stored) (es : List Entry) (k : PartKey) → IsWritten k es
+    → (walk_back list es).blobs k ≡ (replay_back start es).blobs k
 bytes_known list start [] k h = absurd h
 bytes_known list start (e ∷ es) k (inl p) = writes_outcome (walk_back list es) (replay_back start es) k e.call e.outcome p.0 p.1
 bytes_known list start (e ∷ es) k (inr p) = keeps_outcome (walk_back list es) (replay_back start es) k e.call e.outcome (bytes_known list start es k p)
@@ -124,16 +131,20 @@ bytes_known list start (e ∷ es) k (inr p) = keeps_outcome (walk_back list es) 
 -- ---- numbers
 
 -- the number that a walk gives is the one that the log gives, where the walk knows the log's last number or the Cas commits
-pub given_is : (log : Log) (last expected : Option ℕ) → ((n : ℕ) → last ≡ Some n → last_number log ≡ Some n) → (last ≡ None → commits log expected ≡ true) → number_given last expected ≡ cond (commits log expected) (Some (next_number expected)) None
+pub given_is : (log : Log) (last expected : Option ℕ) → ((n : ℕ) → last ≡ Some n → last_number log ≡ Some n)
+    → (last ≡ None → commits log expected ≡ true)
+    → number_given last expected ≡ cond (commits log expected) (Some (next_number expected)) None
 given_is log None None known first = sym (ap (λ (b : Bool). cond b (Some 0) None) (first refl))
 given_is log (Some l) None known first = sym (ap (λ (b : Bool). cond b (Some 0) None) (ap (λ (o : Option ℕ). same_number None o && true) (known l refl)))
-given_is log None (Some n) known first = past (same_number (Some n) (last_number log)) (n == 2 ^ 64 - 1) (first refl) ∙ sym (ap (λ (b : Bool). cond b (Some (n + 1)) None) (first refl))
+given_is log None (Some n) known first = past (same_number (Some n) (last_number log)) (n == 2 ^ 64 - 1) (first refl)
+    ∙ sym (ap (λ (b : Bool). cond b (Some (n + 1)) None) (first refl))
   where
     past : (a b : Bool) → a && not b ≡ true → cond b None (Some (n + 1)) ≡ Some (n + 1)
     past true true h = absurd (cc)
     past true false h = refl
     past false b h = absurd (cc)
-given_is log (Some l) (Some n) known first = split (n == l) (n == 2 ^ 64 - 1) ∙ sym (ap (λ (o : Option ℕ). cond (same_number (Some n) o && not (n == 2 ^ 64 - 1)) (Some (n + 1)) None) (known l refl))
+given_is log (Some l) (Some n) known first = split (n == l) (n == 2 ^ 64 - 1)
+    ∙ sym (ap (λ (o : Option ℕ). cond (same_number (Some n) o && not (n == 2 ^ 64 - 1)) (Some (n + 1)) None) (known l refl))
   where
     split : (a b : Bool) → cond a (cond b None (Some (n + 1))) None ≡ cond (a && not b) (Some (n + 1)) None
     split true true = refl

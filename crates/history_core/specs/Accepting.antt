@@ -34,9 +34,10 @@ CommitsAt s shard _ = ⊤
 -- the first Cas that takes effect commits
 abbrev pub FirstCommits : Stored → ShardId → List Entry → Type 0
 FirstCommits s shard [] = ⊤
-FirstCommits s shard (e ∷ es) = (takes_cas e ≡ true → CommitsAt s shard e.call) × (takes_cas e ≡ false → FirstCommits (next s e) shard es)
+FirstCommits s shard (e ∷ es) =
+    (takes_cas e ≡ true → CommitsAt s shard e.call) × (takes_cas e ≡ false → FirstCommits (next s e) shard es)
 
--- The store stands for the list, the trail is lawful from it, the Cas calls name the shard, and the first that takes effect commits.
+-- The store stands for the list, the trail is lawful from it, its Cas calls name the shard, and the first to take effect commits.
 pub record IsOriginOf (origin : Stored) (shard : ShardId) (list : List Update) (trail : List Entry) : Type 0 where
   pub stands : StandsFor origin shard list
   pub lawful : Lawful (record { start = origin; trail = trail })

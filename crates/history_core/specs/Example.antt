@@ -19,12 +19,15 @@ use Rattle.state_core.specs.States.{ShardState}
 use Rattle.state_core.specs.Steps.{init}
 use Rattle.state_core.specs.Versions.{version_spelling}
 
+-- the shard of the history
 abbrev pub the_shard : ShardId
 the_shard = record { 0 = 1 }
 
+-- member 0, with the last token that it spent
 abbrev pub the_writer : ℕ → Member
 the_writer token = record { number = 0; kind = Writer; since = 0; hold = 0; beat = 0; lease = 0; token = token }
 
+-- member 1, with what it holds and the last token that it spent
 abbrev pub the_compactor : ℕ → ℕ → Member
 the_compactor hold token = record { number = 1; kind = Keeper; since = 0; hold = hold; beat = 0; lease = 100; token = token }
 
@@ -32,16 +35,23 @@ the_compactor hold token = record { number = 1; kind = Keeper; since = 0; hold =
 abbrev pub part_of : ℕ → ℕ → PartKey
 part_of member token = record { shard = the_shard; member = member; token = token; index = 0 }
 
+-- a batch of one part
 abbrev pub batch_from : ℕ → ℕ → PartKey → ℕ → Batch
-batch_from lower upper k rows = record { desc = record { lower = lower; upper = Some upper; since = 0 }; parts = k ∷ []; rows = rows }
+batch_from lower upper k rows = record {
+  desc = record { lower = lower; upper = Some upper; since = 0 };
+  parts = k ∷ [];
+  rows = rows;
+}
 
+-- one more of the datum 7 at time 1
 abbrev pub seven_at_1 : Update
 seven_at_1 = record { datum = 7 ∷ []; time = 1; diff = pos 1 }
 
+-- one more of the datum 8 at time 6
 abbrev pub eight_at_6 : Update
 eight_at_6 = record { datum = 8 ∷ []; time = 6; diff = pos 1 }
 
--- the states
+-- the states: at first, with a writer, with a compactor, after the first append, after the second, and after the merge
 abbrev pub state_0 : ShardState
 state_0 = init the_shard
 
@@ -52,7 +62,13 @@ abbrev pub state_2 : ShardState
 state_2 = record state_0 { number = 2; next_member = 2; members = the_writer 0 ∷ the_compactor 2 0 ∷ [] }
 
 abbrev pub state_3 : ShardState
-state_3 = record state_2 { number = 3; members = the_writer 1 ∷ the_compactor 2 0 ∷ []; upper = Some 5; weight = 1; batches = batch_from 0 5 (part_of 0 1) 1 ∷ [] }
+state_3 = record state_2 {
+  number = 3;
+  members = the_writer 1 ∷ the_compactor 2 0 ∷ [];
+  upper = Some 5;
+  weight = 1;
+  batches = batch_from 0 5 (part_of 0 1) 1 ∷ [];
+}
 
 abbrev pub state_4 : ShardState
 state_4 = record state_2 {
@@ -64,9 +80,15 @@ state_4 = record state_2 {
 }
 
 abbrev pub state_5 : ShardState
-state_5 = record state_2 { number = 5; members = the_writer 2 ∷ the_compactor 5 1 ∷ []; upper = Some 10; weight = 2; batches = batch_from 0 10 (part_of 1 1) 2 ∷ [] }
+state_5 = record state_2 {
+  number = 5;
+  members = the_writer 2 ∷ the_compactor 5 1 ∷ [];
+  upper = Some 10;
+  weight = 2;
+  batches = batch_from 0 10 (part_of 1 1) 2 ∷ [];
+}
 
--- the transitions
+-- the transitions that make them
 abbrev pub step_1 : Transition
 step_1 = Join Writer 0 0
 
@@ -112,6 +134,7 @@ part_eight = spelling (eight_at_6 ∷ [])
 abbrev pub part_both : List ℕ
 part_both = spelling (seven_at_1 ∷ eight_at_6 ∷ [])
 
+-- a call of a client that took effect
 abbrev pub did : ℕ → Call → Entry
 did client call = record { client = client; call = call; outcome = Took }
 

@@ -11,7 +11,7 @@ use Rattle.state_core.specs.VersionReading.{version_in}
 use Rattle.history_core.specs.Histories.{took_effect}
 use Rattle.history_core.specs.Stands.{appended_by}
 
--- the number of the last version, once a Cas has committed; the bytes of the keys that were set; and a list with the rows that were appended
+-- the number of the last version, once a Cas has committed; the bytes of the keys that were set; a list with the rows appended
 pub record Walked : Type 0 where
   pub last : Option ℕ
   pub blobs : PartKey → Option (List ℕ)
@@ -40,7 +40,11 @@ rows_given blobs shard (Some before) n bytes = appended_by (with_blobs blobs) (v
 -- the walk after a Cas that gave its version this number
 abbrev pub after_given : Walked → ShardId → Option ℕ → List ℕ → Option ℕ → Walked
 after_given w shard expected bytes None = w
-after_given w shard expected bytes (Some n) = record { last = Some n; blobs = w.blobs; rows = w.rows ++ rows_given w.blobs shard expected n bytes }
+after_given w shard expected bytes (Some n) = record {
+  last = Some n;
+  blobs = w.blobs;
+  rows = w.rows ++ rows_given w.blobs shard expected n bytes;
+}
 
 -- the walk after a Cas
 abbrev pub after_cas : Walked → ShardId → Option ℕ → List ℕ → Walked

@@ -1,10 +1,11 @@
 // Walk: what the entries of a trail tell by themselves, one after the other.
-ghost use Rattle.std.specs.Prelude.{◌≡◌, ◌++◌, Some, None, [], IfOk, OnOk};
+ghost use Rattle.std.specs.Prelude.{◌≡◌, ◌++◌, Some, None, [], List, Result, IfOk, OnOk};
 ghost use Rattle.store_core.specs.Stores.{key_cmp, set_at};
 ghost use Rattle.store_core.specs.Contents.{blobs_of};
 ghost use Rattle.state_core.specs.States.{ShardState};
-ghost use Rattle.state_core.specs.VersionReading.{version_in};
-ghost use Rattle.std.specs.Prelude.{List, Result};
+ghost use Rattle.state_core.specs.VersionReading.{read_version, whole, version_in};
+ghost use Rattle.state_core.specs.VersionReading as versions;
+ghost use Rattle.state_core.specs.declared.transitions.Transition.{Transition as Step};
 ghost use Rattle.std.specs.Result.{result_ok};
 ghost use Rattle.update_core.specs.declared.updates.Update.{Update};
 ghost use Rattle.part_codec.specs.Reading.{Fails};
@@ -13,7 +14,7 @@ ghost use Rattle.history_core.specs.Stands.{appended_by, rows_under, rows_of_blo
 ghost use Rattle.history_core.specs.Walks.{number_given, number_past, rows_given, with_blobs};
 
 use part_codec::{PartFault, decode_part};
-use state_core::{State, Transition};
+use state_core::{State, Transition, VersionFault};
 use std::alloc::{AllocError, Global};
 use std::collections::BTreeMap;
 use store_core::{Bytes, Call, Entry, Outcome, PartKey, ShardId};
@@ -58,7 +59,8 @@ fn number_given(last: Option<u64>, expected: Option<u64>) -> Option<u64>
 
 // No rows, unless memory was wanting.
 fn none_or_memory(alloc: Global, fault: PartFault) -> Result<UpdateList, AllocError>
-    ensures { (read : Result (List Update) PartFault) → Fails fault read → IfOk result (λ rows. rows ≡ rows_or_none (result_ok read)) }
+    ensures { (read : Result (List Update) PartFault) → Fails fault read
+        → IfOk result (λ rows. rows ≡ rows_or_none (result_ok read)) }
 {
     match fault {
         PartFault::Memory => Err(AllocError),
@@ -72,6 +74,7 @@ fn none_or_memory(alloc: Global, fault: PartFault) -> Result<UpdateList, AllocEr
     }
 }
 
+// The rows of a part, none where the bytes aren't one.
 fn rows_of(alloc: Global, bytes: &[u8]) -> Result<UpdateList, AllocError>
     ensures { IfOk result (λ rows. rows ≡ rows_or_none (rows_in bytes.now)) }
 {
@@ -81,15 +84,48 @@ fn rows_of(alloc: Global, bytes: &[u8]) -> Result<UpdateList, AllocError>
     }
 }
 
-fn version_of(
+// To be had from state_core once it is there.
+fn decode_version(
     _alloc: Global,
     _shard: ShardId,
     _number: u64,
-    _bytes: &Bytes,
-) -> Result<Option<(State, Transition)>, AllocError>
-    ensures { IfOk result (λ version. version ≡ version_in _shard _number _bytes.now) }
+    _bytes: &[u8],
+) -> Result<(State, Transition), VersionFault>
+    ensures exact { versions.Gives (λ found. found) result (read_version _shard _number _bytes.now) }
 {
-    Err(AllocError)
+    Err(VersionFault::Memory)
+}
+
+// No version, unless memory was wanting.
+fn no_version_or_memory(fault: VersionFault) -> Result<Option<(State, Transition)>, AllocError>
+    ensures { (read : Result (ShardState × Step) VersionFault) → versions.Fails fault read
+        → IfOk result (λ version. version ≡ whole read) }
+{
+    match fault {
+        VersionFault::Memory => Err(AllocError),
+        VersionFault::Short { .. }
+        | VersionFault::Magic { .. }
+        | VersionFault::Form { .. }
+        | VersionFault::Tag { .. }
+        | VersionFault::Rule { .. }
+        | VersionFault::Trailing { .. } => Ok(None),
+    }
+}
+
+// The state and transition of a version, if the bytes spell one.
+#[tactic(auto, unfolding(state_core::specs::VersionReading::version_in))]
+fn version_of(
+    alloc: Global,
+    shard: ShardId,
+    number: u64,
+    bytes: &[u8],
+) -> Result<Option<(State, Transition)>, AllocError>
+    ensures { IfOk result (λ version. version ≡ version_in shard number bytes.now) }
+{
+    match decode_version(alloc, shard, number, bytes) {
+        Ok(version) => Ok(Some(version)),
+        Err(fault) => no_version_or_memory(fault),
+    }
 }
 
 fn set_blob(
@@ -147,7 +183,8 @@ fn add_step(
     blobs: &BTreeMap<PartKey, Bytes>,
     step: &Transition,
 ) -> Result<(), AllocError>
-    ensures { (state : ShardState) → OnOk result (rows.new ≡ rows.old ++ appended_by (with_blobs (blobs_of blobs.now)) (Some (state, step.now))) }
+    ensures { (state : ShardState)
+        → OnOk result (rows.new ≡ rows.old ++ appended_by (with_blobs (blobs_of blobs.now)) (Some (state, step.now))) }
 {
     match step {
         Transition::Append { parts, .. } => add_parts(alloc, rows, blobs, parts.as_slice()),
@@ -189,7 +226,7 @@ fn add_given(
     if expected.is_none() {
         return Ok(());
     }
-    let version = version_of(alloc, shard, number, bytes)?;
+    let version = version_of(alloc, shard, number, bytes.as_slice())?;
     add_version(alloc, rows, blobs, version)
 }
 
