@@ -10,3 +10,6 @@ pub mod part_laws;
 mod walks;
 
 pub use accepting::accepted;
+
+#[cfg(test)]
+mod tests;

@@ -19,3 +19,13 @@ pub mod VersionBatchLists
 pub mod VersionSteps
 pub mod VersionTransitions
 pub mod VersionStates
+pub mod MemberLoops
+pub mod Following
+pub mod MemberChanges
+pub mod Applied
+pub mod Staying
+pub mod NoMemory
+pub mod VersionLoops
+pub mod VersionMemberLoops
+pub mod VersionLast
+pub mod VersionDecoded

@@ -68,7 +68,7 @@ batch_fields : (a b : Batch) → a.desc.lower ≡ b.desc.lower → a.desc.upper 
 unfolding make_batch
 batch_fields a b l u s p r = made_batch a.desc.lower b.desc.lower a.desc.upper b.desc.upper a.desc.since b.desc.since a.parts b.parts a.rows b.rows l u s p r
 
-batch_eq : (a b : Batch) → same_batch a b ≡ true → a ≡ b
+pub batch_eq : (a b : Batch) → same_batch a b ≡ true → a ≡ b
 batch_eq a b h =
     let (p1, q1) = and_true (eqb a.desc.lower b.desc.lower) _ h in
     let (p2, q2) = and_true (frontier_eq a.desc.upper b.desc.upper) _ q1 in
@@ -132,7 +132,7 @@ any_among : (now : ℕ) (ms : List Member) → list_any (is_out now) ms ≡ true
 any_among now [] h = cc
 any_among now (m ∷ ms) h = elim (bool_cases (is_out now m)) [ inl e ↦ inl e | inr e ↦ inr (any_among now ms (rw e at h)) ]
 
-mapped_some : (f : ℕ → ℕ) (o : Option ℕ) → is_some (option_map f o) ≡ is_some o
+pub mapped_some : (f : ℕ → ℕ) (o : Option ℕ) → is_some (option_map f o) ≡ is_some o
 mapped_some f None = refl
 mapped_some f (Some n) = refl
 
@@ -266,7 +266,7 @@ keys_same : (ks : List PartKey) → same_keys ks ks ≡ true
 keys_same [] = refl
 keys_same (k ∷ ks) = rw (key_same k, keys_same ks) refl
 
-batch_same : (b : Batch) → same_batch b b ≡ true
+pub batch_same : (b : Batch) → same_batch b b ≡ true
 batch_same b = rw (eq-eqb b.desc.lower b.desc.lower refl, frontier_same b.desc.upper, eq-eqb b.desc.since b.desc.since refl, keys_same b.parts, eq-eqb b.rows b.rows refl) refl
 
 keys_are : (shard : ShardId) (member token i : ℕ) (ks : List PartKey) → AreKeys shard member token i ks → are_keys shard member token i ks ≡ true

@@ -37,7 +37,7 @@ pub rows_of-cons : (b : Batch) (bs : List Batch) → rows_of (b ∷ bs) ≡ b.ro
 rows_of-cons b bs = sum_by-cons (λ (w : Batch). w.rows) b bs
 
 -- the rows with one batch more
-rows_of-push : (us : List Batch) (b : Batch) → rows_of (us ++ b ∷ []) ≡ rows_of us + b.rows
+pub rows_of-push : (us : List Batch) (b : Batch) → rows_of (us ++ b ∷ []) ≡ rows_of us + b.rows
 rows_of-push us b = let e = rows_of-append us (b ∷ []) in let f = rows_of-cons b [] in let g = rows_of-nil in omega arith
 
 at_is : (f : Option ℕ) (t : ℕ) → is_at f t ≡ true → f ≡ Some t
@@ -58,7 +58,7 @@ pub upper_from-push : (f : Option ℕ) (bs : List Batch) (b : Batch) → upper_f
 upper_from-push f [] b = refl
 upper_from-push f (c ∷ bs) b = upper_from-push c.desc.upper bs b
 
-keys_of-push : (us : List Batch) (b : Batch) → keys_of (us ++ b ∷ []) ≡ keys_of us ++ b.parts
+pub keys_of-push : (us : List Batch) (b : Batch) → keys_of (us ++ b ∷ []) ≡ keys_of us ++ b.parts
 keys_of-push us b = keys-append us (b ∷ []) ∙ ap (λ (ks : List PartKey). keys_of us ++ ks) (append-nil b.parts)
 
 -- ---- from batches that are read to the rules

@@ -5,3 +5,6 @@ pub mod Refusals
 pub mod Versions
 pub mod VersionReading
 pub mod Tokens
+pub mod Applying
+pub mod KeySets
+pub mod VersionDrafts

@@ -1,4 +1,8 @@
 // Members of a shard.
+ghost use Rattle.std.specs.Prelude.{◌≡◌, min, if◌then◌else◌};
+ghost use Rattle.state_core.specs.States.{is_writer};
+ghost use Rattle.state_core.specs.Steps.{is_out};
+
 use crate::kinds::Kind;
 
 /// One that has joined a shard. A reader knows the collection from `since` on, and versions from `hold` on are kept for
@@ -12,4 +16,16 @@ pub struct Member {
     pub beat: u64,
     pub lease: u64,
     pub token: u64,
+}
+
+impl Member {
+    /// Whether its lease has run out at the moment `now`. A writer has no lease.
+    pub fn is_out(self, now: u64) -> bool
+        ensures { result ≡ is_out now self }
+    {
+        if self.kind.is_writer() {
+            return false;
+        }
+        u128::from(self.beat) + u128::from(self.lease) <= u128::from(now)
+    }
 }

@@ -1,7 +1,9 @@
 // State: the state of a shard.
-ghost use Rattle.std.specs.Prelude.{◌≡◌, IfOk};
-ghost use Rattle.state_core.specs.States.{IsState};
-ghost use Rattle.state_core.specs.Steps.{init};
+ghost use Rattle.std.specs.Prelude.{◌≡◌, IfOk, option_copied};
+ghost use Rattle.std.specs.List.{list_any};
+ghost use Rattle.state_core.specs.Refusals.{member_of};
+ghost use Rattle.state_core.specs.States.{IsState, floor};
+ghost use Rattle.state_core.specs.Steps.{init, is_out};
 
 use crate::member_lists::MemberList;
 use crate::members::Member;
@@ -14,14 +16,14 @@ use update_core::Frontier;
 /// The state of a shard: its members, and the batches of its collection. Each state keeps the rules of states.
 #[derive(Drop)]
 pub struct State {
-    shard: ShardId,
-    number: u64,
-    next_member: u64,
-    since: u64,
-    upper: Frontier,
-    weight: u64,
-    members: MemberList,
-    spine: Spine,
+    pub(crate) shard: ShardId,
+    pub(crate) number: u64,
+    pub(crate) next_member: u64,
+    pub(crate) since: u64,
+    pub(crate) upper: Frontier,
+    pub(crate) weight: u64,
+    pub(crate) members: MemberList,
+    pub(crate) spine: Spine,
 }
 
 impl Model for State {
@@ -99,6 +101,28 @@ impl State {
         ensures state { IsState self.now }
     {
         self.members.as_slice()
+    }
+
+    /// The member with a number, where it stands.
+    pub fn member(&self, number: u64) -> Option<&Member>
+        ensures { option_copied result ≡ member_of number self.now.members }
+    {
+        self.members.find(number)
+    }
+
+    /// The least hold of the readers and keepers, or the state's number where none stands: the first version that
+    /// someone may still need.
+    pub fn floor(&self) -> u64
+        ensures { result ≡ floor self.now }
+    {
+        self.members.least_hold(self.number)
+    }
+
+    /// Whether the lease of some member has run out at the moment `now`.
+    pub fn is_due(&self, now: u64) -> bool
+        ensures { result ≡ list_any (is_out now) self.now.members }
+    {
+        self.members.is_due(now)
     }
 
     /// The batches.

@@ -1,6 +1,9 @@
 // Transitions of a shard's state.
+ghost use Rattle.std.specs.Prelude.{◌≡◌, IfOk};
+
 use crate::kinds::Kind;
 use spine_core::{Batch, KeyList};
+use std::alloc::{AllocError, Global};
 use update_core::Frontier;
 
 /// How a shard's state becomes the next one.
@@ -50,4 +53,61 @@ pub enum Transition {
         right: Batch,
         merged: Batch,
     },
+}
+
+impl Transition {
+    /// An equal transition. It fails only for want of memory.
+    pub fn copy(&self, alloc: Global) -> Result<Transition, AllocError>
+        ensures { IfOk result (λ copy. copy ≡ self.now) }
+    {
+        let copy = match self {
+            Transition::Init => Transition::Init,
+            Transition::Join { kind, now, lease } => Transition::Join {
+                kind: *kind,
+                now: *now,
+                lease: *lease,
+            },
+            Transition::Leave { member } => Transition::Leave { member: *member },
+            Transition::Renew { member, now } => Transition::Renew {
+                member: *member,
+                now: *now,
+            },
+            Transition::Advance { member, to } => Transition::Advance {
+                member: *member,
+                to: *to,
+            },
+            Transition::Expire { now } => Transition::Expire { now: *now },
+            Transition::Append {
+                member,
+                token,
+                expected,
+                new,
+                parts,
+                rows,
+                weight,
+            } => Transition::Append {
+                member: *member,
+                token: *token,
+                expected: *expected,
+                new: *new,
+                parts: parts.copy(alloc)?,
+                rows: *rows,
+                weight: *weight,
+            },
+            Transition::Merge {
+                member,
+                token,
+                left,
+                right,
+                merged,
+            } => Transition::Merge {
+                member: *member,
+                token: *token,
+                left: left.copy(alloc)?,
+                right: right.copy(alloc)?,
+                merged: merged.copy(alloc)?,
+            },
+        };
+        Ok(copy)
+    }
 }

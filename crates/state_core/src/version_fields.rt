@@ -134,7 +134,7 @@ fn next_time<'a>(
     total: usize,
     start: &[u8],
     bytes: &'a [u8],
-) -> Result<(Frontier, &'a [u8]), VersionFault>
+) -> Result<(Option<u64>, &'a [u8]), VersionFault>
     ensures { Gives (λ x. (x.0, x.1.now)) result (time_at total start.now bytes.now) }
 {
     if bytes.len() < 8 {
@@ -146,11 +146,15 @@ fn next_time<'a>(
     let time = u64::from_be_bytes([
         front[0], front[1], front[2], front[3], front[4], front[5], front[6], front[7],
     ]);
-    Ok((Frontier::at(time), rest))
+    Ok((Some(time), rest))
 }
 
+// A frontier, by its time; none where it is Closed.
 #[tactic(auto, unfolding(crate::specs::VersionReading::frontier_at))]
-pub(crate) fn next_frontier(total: usize, bytes: &[u8]) -> Result<(Frontier, &[u8]), VersionFault>
+pub(crate) fn next_frontier(
+    total: usize,
+    bytes: &[u8],
+) -> Result<(Option<u64>, &[u8]), VersionFault>
     ensures { Gives (λ x. (x.0, x.1.now)) result (frontier_at total bytes.now) }
 {
     let (tag, rest) = next_byte(total, bytes)?;
@@ -158,11 +162,20 @@ pub(crate) fn next_frontier(total: usize, bytes: &[u8]) -> Result<(Frontier, &[u
         return next_time(total, bytes, rest);
     }
     if tag == 1 {
-        return Ok((Frontier::closed(), rest));
+        return Ok((None, rest));
     }
     Err(VersionFault::Tag {
         place: place_of(total, bytes),
     })
+}
+
+pub(crate) fn frontier_of(time: Option<u64>) -> Frontier
+    ensures { result ≡ time }
+{
+    match time {
+        Some(time) => Frontier::at(time),
+        None => Frontier::closed(),
+    }
 }
 
 #[tactic(auto, unfolding(crate::specs::VersionReading::kind_at))]
