@@ -17,3 +17,6 @@ pub use accepting::accepted;
 pub use asked::Asked;
 pub use read_answers::ReadAnswer;
 pub use write_answers::WriteAnswer;
+
+#[cfg(test)]
+mod tests;

@@ -3,7 +3,7 @@ ghost use Rattle.std.specs.Prelude.{◌≡◌, ◌++◌, Some, None, [], List, R
 ghost use Rattle.store_core.specs.Stores.{key_cmp, set_at};
 ghost use Rattle.store_core.specs.Contents.{blobs_of};
 ghost use Rattle.state_core.specs.States.{ShardState};
-ghost use Rattle.state_core.specs.VersionReading.{read_version, whole, version_in};
+ghost use Rattle.state_core.specs.VersionReading.{whole, version_in};
 ghost use Rattle.state_core.specs.VersionReading as versions;
 ghost use Rattle.state_core.specs.declared.transitions.Transition.{Transition as Step};
 ghost use Rattle.std.specs.Result.{result_ok};
@@ -14,7 +14,7 @@ ghost use Rattle.history_core.specs.Stands.{appended_by, rows_under, rows_of_blo
 ghost use Rattle.history_core.specs.Walks.{number_given, number_past, rows_given, with_blobs};
 
 use part_codec::{PartFault, decode_part};
-use state_core::{State, Transition, VersionFault};
+use state_core::{State, Transition, VersionFault, decode_version};
 use std::alloc::{AllocError, Global};
 use std::collections::BTreeMap;
 use store_core::{Bytes, Call, Entry, Outcome, PartKey, ShardId};
@@ -82,18 +82,6 @@ fn rows_of(alloc: Global, bytes: &[u8]) -> Result<UpdateList, AllocError>
         Ok(rows) => Ok(rows),
         Err(fault) => none_or_memory(alloc, fault),
     }
-}
-
-// To be had from state_core once it is there.
-fn decode_version(
-    _alloc: Global,
-    _shard: ShardId,
-    _number: u64,
-    _bytes: &[u8],
-) -> Result<(State, Transition), VersionFault>
-    ensures exact { versions.Gives (λ found. found) result (read_version _shard _number _bytes.now) }
-{
-    Err(VersionFault::Memory)
 }
 
 // No version, unless memory was wanting.
