@@ -27,7 +27,8 @@ use Rattle.history_core.specs.Stands.{PartRows, BatchHolds, rows_under}
 use Rattle.history_core.proofs.ReadingFacts.{rows_in_nonzero}
 
 -- the rows that the parts hold are those under the keys
-pub part_rows_under : (store : Stored) (ks : List PartKey) (rows : List Update) → PartRows store ks rows → rows_under store ks ≡ rows
+pub part_rows_under : (store : Stored) (ks : List PartKey) (rows : List Update) → PartRows store ks rows
+    → rows_under store ks ≡ rows
 part_rows_under store [] rows h = sym h
 part_rows_under store (k ∷ ks) rows h = rw (h.3, h.4) (ap (λ (us : List Update). h.1 ++ us) (part_rows_under store ks h.2 h.6) ∙ sym h.5)
 
@@ -46,28 +47,33 @@ hold_nonzero P [] rows h = subst NonZero (sym h) tt
 hold_nonzero P (k ∷ ks) rows h = subst NonZero (sym h.5) (nonzero_append h.1 h.2 (rows_in_nonzero h.0 h.1 h.4) (hold_nonzero P ks h.2 h.6))
 
 -- parts that hold rows hold no others
-pub part_rows_one : (store : Stored) (ks : List PartKey) (rows rows2 : List Update) → PartRows store ks rows → PartRows store ks rows2 → rows ≡ rows2
+pub part_rows_one : (store : Stored) (ks : List PartKey) (rows rows2 : List Update) → PartRows store ks rows
+    → PartRows store ks rows2 → rows ≡ rows2
 part_rows_one store ks rows rows2 h g = sym (part_rows_under store ks rows h) ∙ part_rows_under store ks rows2 g
 
-pub part_rows_append : (store : Stored) (ks qs : List PartKey) (rows rows2 : List Update) → PartRows store ks rows → PartRows store qs rows2 → PartRows store (ks ++ qs) (rows ++ rows2)
+pub part_rows_append : (store : Stored) (ks qs : List PartKey) (rows rows2 : List Update) → PartRows store ks rows
+    → PartRows store qs rows2 → PartRows store (ks ++ qs) (rows ++ rows2)
 part_rows_append store [] qs rows rows2 h g = subst (λ (r : List Update). PartRows store qs (r ++ rows2)) (sym h) g
 part_rows_append store (k ∷ ks) qs rows rows2 h g =
     (h.0, h.1, h.2 ++ rows2, h.3, h.4, ap (λ (us : List Update). us ++ rows2) h.5 ∙ append_assoc h.1 h.2 rows2, part_rows_append store ks qs h.2 rows2 h.6 g)
 
 -- a store with the same bytes under the keys has the same rows there
-pub part_rows_on : (s t : Stored) (ks : List PartKey) (rows : List Update) → AllByRecursion (λ k. t.blobs k ≡ s.blobs k) ks → PartRows s ks rows → PartRows t ks rows
+pub part_rows_on : (s t : Stored) (ks : List PartKey) (rows : List Update) → AllByRecursion (λ k. t.blobs k ≡ s.blobs k) ks
+    → PartRows s ks rows → PartRows t ks rows
 part_rows_on s t [] rows e h = h
 part_rows_on s t (k ∷ ks) rows e h = (h.0, h.1, h.2, e.0 ∙ h.3, h.4, h.5, part_rows_on s t ks h.2 e.1 h.6)
 
 -- the parts of batches that hold a list have what batches hold of it
-pub rows_held : (store : Stored) (list : List Update) (bs : List Batch) → AllByRecursion (BatchHolds store list) bs → PartRows store (keys_of bs) (held list bs)
+pub rows_held : (store : Stored) (list : List Update) (bs : List Batch) → AllByRecursion (BatchHolds store list) bs
+    → PartRows store (keys_of bs) (held list bs)
 rows_held store list [] h = refl
 rows_held store list (b ∷ bs) h =
     part_rows_append store b.parts (keys_of bs) (batch_of list b.desc) (held list bs)
     (subst (λ (rows : List Update). PartRows store b.parts rows) (is_batch list b.desc h.0.0 h.0.2) h.0.1) (rows_held store list bs h.1)
 
 -- a batch goes on to hold what it did where the list grows past it
-pub batch_grow : (store : Stored) (list new : List Update) (b : Batch) (upper : Option ℕ) → ((t : ℕ) → covers b.desc.upper t ≡ true → covers upper t ≡ true)
+pub batch_grow : (store : Stored) (list new : List Update) (b : Batch) (upper : Option ℕ)
+    → ((t : ℕ) → covers b.desc.upper t ≡ true → covers upper t ≡ true)
     → AllByRecursion (λ u. covers upper u.time ≡ false) new → BatchHolds store list b → BatchHolds store (list ++ new) b
 batch_grow store list new b upper f late h =
     (h.0, h.1, subst (λ (rows : List Update). IsBatchOf (list ++ new) b.desc rows) (sym same) (batch_is (list ++ new) b.desc), h.3)
@@ -88,7 +94,8 @@ pub record Content (store : Stored) (list new : List Update) (from to : ShardSta
 
 -- ---- updates between two frontiers
 
-none_from : (lower : ℕ) (upper : Option ℕ) (us : List Update) → AllByRecursion (λ u. u.time < lower) us → between (Some lower) upper us ≡ []
+none_from : (lower : ℕ) (upper : Option ℕ) (us : List Update) → AllByRecursion (λ u. u.time < lower) us
+    → between (Some lower) upper us ≡ []
 none_from lower upper [] h = refl
 none_from lower upper (u ∷ us) h =
     ap (λ (b : Bool). cond (b && covers upper u.time) (u ∷ between (Some lower) upper us) (between (Some lower) upper us)) (early u.time h.0) ∙ none_from lower upper us h.1
@@ -103,7 +110,8 @@ between-length lower upper (u ∷ us) =
     elim (bool_cases (nat_le lower u.time && covers upper u.time)) [ inl e ↦ rw e (omega arith) | inr e ↦ rw e (omega arith) ]
 
 -- updates that all lie between two frontiers
-all_within : (lower : ℕ) (upper : Option ℕ) (us : List Update) → between (Some lower) upper us ≡ us → AllByRecursion (λ u. (nat_le lower u.time && covers upper u.time) ≡ true) us
+all_within : (lower : ℕ) (upper : Option ℕ) (us : List Update) → between (Some lower) upper us ≡ us
+    → AllByRecursion (λ u. (nat_le lower u.time && covers upper u.time) ≡ true) us
 all_within lower upper [] h = tt
 all_within lower upper (u ∷ us) h = elim (bool_cases (nat_le lower u.time && covers upper u.time)) [
   | inl e ↦
@@ -141,7 +149,8 @@ module _ (store : Stored) (own : List Answered) (list : List Update) (from to : 
   }
 
   -- an append adds its batch, and its rows to the list
-  pub content_append : (member token expected : ℕ) (new : Option ℕ) (parts : List PartKey) (rows weight : ℕ) → Applies from (Append member token expected new parts rows weight) to
+  pub content_append : (member token expected : ℕ) (new : Option ℕ) (parts : List PartKey) (rows weight : ℕ)
+      → Applies from (Append member token expected new parts rows weight) to
       → (h : AppendHolds own expected new parts rows weight) → ((k : PartKey) (b : List ℕ) → Among (λ q. q ≡ k) parts → StoredAs own k b → store.blobs k ≡ Some b)
       → Content store list h.updates from to
   content_append member token expected new parts rows weight a h stored = record {
@@ -186,7 +195,8 @@ module _ (store : Stored) (own : List Answered) (list : List Update) (from to : 
       )
 
   -- a merge's batch holds what the two held
-  pub content_merge : (member token : ℕ) (left right merged : Batch) → Applies from (Merge member token left right merged) to → MergeHolds own left right merged
+  pub content_merge : (member token : ℕ) (left right merged : Batch) → Applies from (Merge member token left right merged) to
+      → MergeHolds own left right merged
       → ((k : PartKey) (b : List ℕ) → Among (λ q. q ≡ k) merged.parts → StoredAs own k b → store.blobs k ≡ Some b)
       → ((k : PartKey) (b : List ℕ) → Among (λ q. q ≡ k) (left.parts ++ right.parts) → GotAs own k b → store.blobs k ≡ Some b)
       → Content store list [] from to
@@ -230,7 +240,9 @@ module _ (store : Stored) (own : List Answered) (list : List Update) (from to : 
       }
 
       outputs_are : h.outputs ≡ batch_of list merged.desc
-      outputs_are = is_cons (moved h.inputs merged.desc.since) h.outputs h.cons ∙ ap (λ (us : List Update). cons (moved us merged.desc.since)) inputs_are ∙ batches_merge list left.desc right.desc merged.desc meets
+      outputs_are = is_cons (moved h.inputs merged.desc.since) h.outputs h.cons
+          ∙ ap (λ (us : List Update). cons (moved us merged.desc.since)) inputs_are
+          ∙ batches_merge list left.desc right.desc merged.desc meets
 
       merged_holds : BatchHolds store list merged
       merged_holds = (

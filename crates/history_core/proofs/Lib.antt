@@ -55,3 +55,13 @@ pub mod WorkedStands
 pub mod WorkedCollection
 pub mod WorkedCompaction
 pub mod LastingLaws
+pub mod GotRows
+pub mod Lasts
+pub mod Later
+pub mod Steps
+pub mod Appends
+pub mod Members
+pub mod OneAnswer
+pub mod Gaining
+pub mod Committed
+pub mod Answering

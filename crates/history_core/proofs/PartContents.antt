@@ -23,7 +23,8 @@ all_filter : {A : Type 0} (P : A → Type 0) (p : A → Bool) (xs : List A) → 
 all_filter P p [] h = h
 all_filter P p (x ∷ xs) h = elim (bool_cases (p x)) [ inl e ↦ rw e (h.0, all_filter P p xs h.1) | inr e ↦ rw e (all_filter P p xs h.1) ]
 
-is_state : (shard : ShardId) (n : ℕ) (b : Option (List ℕ)) (s : ShardState) (x : Transition) → read_version shard n b ≡ Some (s, x) → IsState s
+is_state : (shard : ShardId) (n : ℕ) (b : Option (List ℕ)) (s : ShardState) (x : Transition)
+    → read_version shard n b ≡ Some (s, x) → IsState s
 is_state shard n None s x h = absurd (cc)
 is_state shard n (Some b) s x h = version_in_state shard n b s x h
 

@@ -15,3 +15,7 @@ pub mod WorkedCompacted
 pub mod Spending
 pub mod Answers
 pub mod Lasting
+pub mod Placing
+pub mod Legal
+pub mod Costs
+pub mod AnswerLaws
