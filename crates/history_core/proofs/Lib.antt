@@ -62,6 +62,7 @@ pub mod Steps
 pub mod Appends
 pub mod Members
 pub mod OneAnswer
+pub mod WorkedAnswers
 pub mod Gaining
 pub mod Committed
 pub mod Answering

@@ -11,7 +11,7 @@ use Rattle.history_core.proofs.LawfulLaws.{lawful_law}
 use Rattle.history_core.proofs.WorkedLaw.{prefixes_lawful}
 use Rattle.history_core.proofs.WorkedCompaction.{compacted_lawful, compacted_accepts}
 
-starts : StandsFor empty_store the_shard []
+pub starts : StandsFor empty_store the_shard []
 starts = inl (record { no_version = refl; no_update = refl; no_key = λ k e. refl })
 
 pub prefixes_stand : (n : ℕ) → StandsFor (store_after (first_calls n)) the_shard (accepted_of the_shard [] (first_calls n))

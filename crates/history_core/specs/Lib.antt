@@ -19,3 +19,4 @@ pub mod Placing
 pub mod Legal
 pub mod Costs
 pub mod AnswerLaws
+pub mod WorkedAnswers

@@ -10,6 +10,7 @@ pub mod part_laws;
 mod read_answers;
 mod walks;
 pub mod worked;
+pub mod worked_answers;
 mod write_answers;
 
 pub use accepting::accepted;
