@@ -25,13 +25,6 @@ pub mod VersionBatchLists
 pub mod VersionSteps
 pub mod VersionTransitions
 pub mod VersionStates
-pub mod VersionFacts
-pub mod MemberLoops
-pub mod Following
-pub mod MemberChanges
-pub mod Applied
-pub mod Staying
-pub mod NoMemory
 pub mod VersionLoops
 pub mod VersionMemberLoops
 pub mod VersionLast
