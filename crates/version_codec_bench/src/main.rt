@@ -66,7 +66,7 @@ fn print_longer(rt: &impl Print, alloc: Global, origin: &Origin, more: &[u8]) ->
     Ok(())
 }
 
-// One byte of each end of the range, one as the last, eight, and the whole version once more.
+// With a byte of 00, one of ff, its own last byte, its first eight, and all of it once more.
 fn print_lengthened(rt: &impl Print, alloc: Global, origin: &Origin) -> Result<()> {
     let bytes = origin.bytes.as_slice();
     print_longer(rt, alloc, origin, b"\x00")?;
