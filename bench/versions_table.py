@@ -266,11 +266,12 @@ def bases():
     yield 9, version(7, 4, CLOSED, 0, members, [(0, CLOSED, 1, 0, [])], (JOIN, KEEPER, 7, 20))
     # A reader whose lease begins again. With another tag it leaves, or advances.
     yield 258, version(2, 3, 0, 0, [(1, READER, 3, 258, 257, 1, 0)], [], (RENEW, 1, 257))
-    # Three batches: one of a member that is gone, one without rows, and one of two parts, which was just added.
+    # Three batches: one of a member that is gone, one without rows, and one of two parts, which was just added,
+    # of the greatest weight that an append may have.
     parts = [(1, 4, 0), (1, 4, 1)]
     batches = [(0, 5, 2, 3, [(0, 9, 0)]), (5, 6, 0, 0, []), (6, 300, 0, 4097, parts)]
     members = [(1, WRITER, 0, 0, 0, 0, 4)]
-    yield 20, version(3, 2, 300, 4200, members, batches, (APPEND, 1, 4, 6, 300, 4097, 4100, parts))
+    yield 20, version(3, 2, 300, 4200, members, batches, (APPEND, 1, 4, 6, 300, 4097, 2**62 + 1, parts))
     # A batch that was just put in place of two, and one after it.
     left = (0, 5, 1, 2, [(0, 1, 0)])
     right = (5, 7, 2, 1, [(0, 2, 0)])
