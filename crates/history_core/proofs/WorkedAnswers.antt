@@ -5,7 +5,7 @@ use Rattle.std.specs.List.{AllByRecursion}
 use Rattle.update_core.specs.Totals.{consolidated}
 use Rattle.update_core.specs.Updates.{cons, sum_of, slice_of}
 use Rattle.update_core.specs.Collections.{content, step}
-use Rattle.store_core.specs.declared.calls.Call.TheVariants.{Scan, Cas, Get}
+use Rattle.store_core.specs.declared.calls.Call.TheVariants.{Cas, Get}
 use Rattle.store_core.specs.declared.entries.Entry.{Entry}
 use Rattle.store_core.specs.Stores.{Stored, empty_store}
 use Rattle.store_core.specs.Newest.{replay_back}
