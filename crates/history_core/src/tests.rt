@@ -2,7 +2,7 @@ use super::*;
 use std::alloc::{AllocError, Global};
 use std::test::Fail;
 use store_core::{Bytes, Call, Entry, Outcome, PartKey, ShardId};
-use update_core::UpdateList;
+use update_core::{Update, UpdateList};
 
 // The bytes are written here field by field, and not by the encoders.
 
@@ -28,7 +28,7 @@ fn put(out: &mut Vec<u8>, numbers: &[u64]) -> Result<(), AllocError> {
 fn part(alloc: Global, data: &[u8]) -> Result<Bytes, AllocError> {
     let mut out = Vec::new(alloc);
     out.extend_from_slice(b"PART\x01\x00\x00\x00")?;
-    out.push(data.len() as u8)?;
+    out.push(u8::try_from(data.len()).unwrap_or(0))?;
     for datum in data {
         out.extend_from_slice(&[1, *datum])?;
         put(&mut out, &[u64::from(*datum), 1])?;
@@ -254,12 +254,20 @@ fn merge_and_collect(alloc: Global, trail: &mut Vec<Entry>) -> Result<(), AllocE
     )
 }
 
-// The times of what a trail accepts, each of one byte that is its datum too.
+// Whether the datum is one byte, which is the time too, and the difference is 1.
+fn is_plain(update: &Update) -> bool {
+    match update.datum.bytes() {
+        [byte] => u64::from(*byte) == update.time && update.diff == 1,
+        _ => false,
+    }
+}
+
+// The times of the plain updates that a trail accepts.
 fn times(alloc: Global, trail: &[Entry]) -> Result<Vec<u64>, AllocError> {
     let list = accepted(alloc, &UpdateList::new(alloc), trail)?;
     let mut times = Vec::new(alloc);
     for update in list.as_slice() {
-        if update.datum.bytes() == [update.time as u8].as_slice() && update.diff == 1 {
+        if is_plain(update) {
             times.push(update.time)?;
         }
     }
