@@ -39,4 +39,6 @@ pub use tries::Tried;
 pub use tryings::Trying;
 
 #[cfg(test)]
+mod moving_tests;
+#[cfg(test)]
 mod tests;
