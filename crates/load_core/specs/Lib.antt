@@ -1,0 +1,13 @@
+pub mod Loading
+pub mod Readings
+pub mod Attempts
+pub mod Trying
+pub mod Fronts
+pub mod Following
+pub mod Outcomes
+pub mod Costing
+pub mod Runs
+pub mod PartRows
+pub mod Setting
+pub mod Getting
+pub mod PartsFollowing
