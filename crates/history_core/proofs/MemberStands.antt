@@ -114,7 +114,8 @@ new_member kind member s s2 (Join k now lease) r a h =
     let up : s2.next_member ≡ s.next_member + 1 = ap (λ (t : ShardState). t.next_member) a.makes.effect in
     let up2 : s2.next_member ≡ member + 1 = h.1 in
     let next : s.next_member ≡ member = omega arith in
-    let none : HasKind kind member s = each_map (λ m. m.number < s.next_member) (KindOf kind member) s.members (λ m lt e. absurd (omega arith)) r.known in
+    let none : HasKind kind member s =
+    each_map (λ m. m.number < s.next_member) (KindOf kind member) s.members (λ m lt e. absurd (omega arith)) r.known in
     record {
       kinds = subst (HasKind kind member) (sym a.makes.effect) (each_append (KindOf kind member) s.members _ none ((λ e. h.0), tt));
       writes = λ w. subst (Writes member) (sym a.makes.effect) (among_back (IsWriter member) s.members _ (inl (next, ap is_writer (h.0 ∙ w))));
@@ -139,7 +140,8 @@ joins_as (Some (s, Merge a b c d e)) kind member h = absurd h
 joins_as None kind member h = absurd h
 
 -- a Join with a kind is a Join
-pub is_join : (kind : Kind) (shard : ShardId) (member : ℕ) (call : Call) (r : Reply) → IsKindJoin kind shard member call r → IsJoin shard member call r
+pub is_join : (kind : Kind) (shard : ShardId) (member : ℕ) (call : Call) (r : Reply) → IsKindJoin kind shard member call r →
+    IsJoin shard member call r
 is_join kind shard member (calls.Cas s expected bytes) (replies.Committed n) h = (h.0, joins_as _ kind member h.1)
 is_join kind shard member (calls.Cas s expected bytes) (replies.Version v) h = absurd h
 is_join kind shard member (calls.Cas s expected bytes) (replies.Versions v) h = absurd h

@@ -23,19 +23,19 @@ use Rattle.state_core.specs.VersionReading.{version_in}
 use Rattle.state_core.proofs.ListLemmas.{bool_cases, among_map}
 use Rattle.history_core.specs.Histories.{commits, took_effect, ever, grown}
 use Rattle.history_core.specs.Discipline.{IsJoin, Owns, OwnsSome, Allows, LawfulBack}
-use Rattle.history_core.specs.Stands.{StandsFor, StateIn, IsLast}
+use Rattle.history_core.specs.Stands.{StandsFor, StateIn, IsLast, end_of}
 use Rattle.history_core.specs.Laws.{LastIs}
-use Rattle.history_core.specs.Members.{KindJoins, IsKindJoin, LeavesIn, IsLeave, JoinedAs, OwnMemberStands, OwnKindStays}
+use Rattle.history_core.specs.Members.{KindJoins, IsKindJoin, LeavesIn, IsLeave, JoinedAs, OwnMemberStands, OwnKindStays, OwnStateThere}
 use Rattle.history_core.proofs.Prefixes.{lawful_back}
 use Rattle.history_core.proofs.Entries.{shard_same, among_mine, mine_older, mine_newest, lawful_newest, lawful_older}
-use Rattle.history_core.proofs.StateFacts.{state_rules, state_none, last_commit, last_one}
+use Rattle.history_core.proofs.StateFacts.{state_rules, state_none, state_below, last_commit, last_one}
 use Rattle.history_core.proofs.Owners.{CommitBy, CommitsFirst, commit_of, owned_version}
 use Rattle.history_core.proofs.Standing.{owns_below}
 use Rattle.history_core.proofs.Turns.{Turn, still, shorter, begins, grows, turn}
 use Rattle.history_core.proofs.Blobs.{Begins, owners_at}
 use Rattle.history_core.proofs.Presence.{kept_at}
 use Rattle.history_core.proofs.Bases.{base_of}
-use Rattle.history_core.proofs.StandsAfter.{agree_at, live_ever}
+use Rattle.history_core.proofs.StandsAfter.{agree_at, live_ever, stands_after}
 use Rattle.history_core.proofs.MemberStands.{HasKind, Writes, kind_on, writes_on, leaver_acts, NewMember, new_member, is_join}
 
 -- a Join with a kind that is answered Committed commits
@@ -48,7 +48,8 @@ record KindJoined (kind : Kind) (shard : ShardId) (store : Stored) (call : Call)
   pub joins : KindJoins (version_in shard (next_number expected) bytes) kind member
 
 joined-cas : (kind : Kind) (shard s : ShardId) (store : Stored) (expected : Option ℕ) (bytes : List ℕ) (member : ℕ) →
-    IsKindJoin kind shard member (calls.Cas s expected bytes) (reply_of store (calls.Cas s expected bytes)) → KindJoined kind shard store (calls.Cas s expected bytes) Took member
+    IsKindJoin kind shard member (calls.Cas s expected bytes) (reply_of store (calls.Cas s expected bytes)) →
+    KindJoined kind shard store (calls.Cas s expected bytes) Took member
 joined-cas kind shard s store expected bytes member t =
     elim (bool_cases (same_number expected (last_number (store.logs s)))) [
       | inl e ↦ elim (bool_cases (is_last_number expected)) [
@@ -87,7 +88,8 @@ grown_is : (shard : ShardId) (now all : Log) (call : Call) (outcome : Outcome) (
 grown_is shard now all call outcome expected bytes c t k =
     subst (λ (q : Call). grown shard now q outcome all ≡ committed all bytes) (sym c) (rw (t, shard_same shard, k) refl)
 
-module _ (start : Stored) (shard : ShardId) (start_member : ℕ) (begin : Begins start shard start_member) (kind : Kind) (member c : ℕ) where
+module _ (start : Stored) (shard : ShardId) (start_member : ℕ) (begin : Begins start shard start_member)
+    (kind : Kind) (member c : ℕ) where
   abbrev Joined : List Entry → Type 0
   Joined es = JoinedAs kind (mine_back start es c) shard member
 
@@ -96,12 +98,14 @@ module _ (start : Stored) (shard : ShardId) (start_member : ℕ) (begin : Begins
 
   -- in the last state the member has its kind, and a writer that didn't leave stands
   abbrev pub Held : List Entry → Type 0
-  Held es = (number : ℕ) (last : ShardState) → IsLast (ever start shard es) number → StateIn shard (ever start shard es) number last →
-      HasKind kind member last × (kind ≡ Writer → ¬ Left es → Writes member last)
+  Held es = (number : ℕ) (last : ShardState) → IsLast (ever start shard es) number →
+      StateIn shard (ever start shard es) number last → HasKind kind member last ×
+      (kind ≡ Writer → ¬ Left es → Writes member last)
 
   joined_owns : (es : List Entry) → Joined es → Owns (mine_back start es c) shard member
   joined_owns es j =
-      among_map (λ (o : Answered). IsKindJoin kind shard member o.entry.call o.reply) (λ (o : Answered). IsJoin shard member o.entry.call o.reply)
+      among_map (λ (o : Answered). IsKindJoin kind shard member o.entry.call o.reply)
+      (λ (o : Answered). IsJoin shard member o.entry.call o.reply)
       (mine_back start es c) (λ o h. is_join kind shard member o.entry.call o.reply h) j
 
   joined_now : (e : Entry) (es : List Entry) → LawfulBack start (e ∷ es) →
@@ -109,19 +113,27 @@ module _ (start : Stored) (shard : ShardId) (start_member : ℕ) (begin : Begins
   joined_now e es l h =
       let j = kind_joined kind shard (replay_back start es) e.call e.outcome member h in
       let q : ever start shard (e ∷ es) ≡ committed (ever start shard es) j.bytes =
-      grown_is shard ((replay_back start es).logs shard) (ever start shard es) e.call e.outcome j.expected j.bytes j.call_is j.took j.commit in
+      grown_is shard ((replay_back start es).logs shard) (ever start shard es) e.call e.outcome j.expected j.bytes j.call_is
+      j.took j.commit in
+      let allowed = subst (Allows (mine_back start es e.client)) j.call_is (lawful_newest start e es l) in
       go j.expected j.bytes j.joins q
-      (commit_of start shard begin.first es e.client j.expected j.bytes j.commit (subst (Allows (mine_back start es e.client)) j.call_is (lawful_newest start e es l)))
+      (commit_of start shard begin.first es e.client j.expected j.bytes j.commit allowed)
     where
+      reads_at : (expected expected2 : Option ℕ) (bytes : List ℕ) → expected ≡ expected2 →
+          KindJoins (version_in shard (next_number expected) bytes) kind member →
+          KindJoins (version_in shard (next_number expected2) bytes) kind member
+      reads_at expected expected2 bytes is h = subst (λ (o : Option ℕ). KindJoins (version_in shard (next_number o) bytes) kind member) is h
+
       go : (expected : Option ℕ) (bytes : List ℕ) → KindJoins (version_in shard (next_number expected) bytes) kind member →
           ever start shard (e ∷ es) ≡ committed (ever start shard es) bytes →
-          CommitsFirst shard (ever start shard es) expected bytes ⊎ CommitBy (mine_back start es e.client) shard (ever start shard es) expected bytes → Held (e ∷ es)
+          CommitsFirst shard (ever start shard es) expected bytes ⊎
+          CommitBy (mine_back start es e.client) shard (ever start shard es) expected bytes → Held (e ∷ es)
       go expected bytes joins q (inl f) =
-          let at : KindJoins (version_in shard 0 bytes) kind member = subst (λ (o : Option ℕ). KindJoins (version_in shard (next_number o) bytes) kind member) f.none joins in
+          let at : KindJoins (version_in shard 0 bytes) kind member = reads_at expected None bytes f.none joins in
           absurd (subst (λ (o : Option (ShardState × Transition)). KindJoins o kind member) f.first at)
       go expected bytes joins q (inr b) = λ number last newest st.
           let m = b.commit in
-          let at : KindJoins (version_in shard (m.n + 1) bytes) kind member = subst (λ (o : Option ℕ). KindJoins (version_in shard (next_number o) bytes) kind member) b.number joins in
+          let at : KindJoins (version_in shard (m.n + 1) bytes) kind member = reads_at expected (Some m.n) bytes b.number joins in
           let new : NewMember kind member m.to =
           new_member kind member m.from m.to m.step (state_rules shard (ever start shard es) m.n m.from m.from_is) m.applies
           (subst (λ (o : Option (ShardState × Transition)). KindJoins o kind member) m.written at) in
@@ -145,7 +157,8 @@ module _ (start : Stored) (shard : ShardId) (start_member : ℕ) (begin : Begins
 
       idle : Joined es → ever start shard (e ∷ es) ≡ ever start shard es → Held (e ∷ es)
       idle j q number last newest st =
-          let (kinds, writes) = older j number last (subst (λ (w : Log). IsLast w number) q newest) (subst (λ (w : Log). StateIn shard w number last) q st) in
+          let newest2 = subst (λ (w : Log). IsLast w number) q newest in
+          let (kinds, writes) = older j number last newest2 (subst (λ (w : Log). StateIn shard w number last) q st) in
           (kinds, λ w unleft. writes w (λ h. unleft (left_on h)))
 
       leaves : Joined es → (expected : Option ℕ) (bytes : List ℕ) → e.call ≡ calls.Cas shard expected bytes →
@@ -154,7 +167,8 @@ module _ (start : Stored) (shard : ShardId) (start_member : ℕ) (begin : Begins
       leaves j expected bytes k b h =
           let theirs = subst (OwnsSome (mine_back start es e.client) shard) (leaver_acts b.commit.to b.commit.step member h) b.owned in
           let who : e.client ≡ c = (owners_at start shard start_member begin es before).one e.client c member theirs (joined_owns es j) in
-          let call_is : e.call ≡ calls.Cas shard (Some b.commit.n) bytes = subst (λ (o : Option ℕ). e.call ≡ calls.Cas shard o bytes) b.number k in
+          let call_is : e.call ≡ calls.Cas shard (Some b.commit.n) bytes =
+          subst (λ (o : Option ℕ). e.call ≡ calls.Cas shard o bytes) b.number k in
           let at : LeavesIn (version_in shard (b.commit.n + 1) bytes) member =
           subst (λ (o : Option (ShardState × Transition)). LeavesIn o member) (sym b.commit.written) h in
           let leave : IsLeave shard member e.call = subst (IsLeave shard member) (sym call_is) (refl, at) in
@@ -209,3 +223,28 @@ kind_law shard list h st l kind c member joined number last is =
     (held_back h.start shard list (reverse h.trail) st (lawful_back h l) kind member c
     (subst (λ (own : List Answered). JoinedAs kind own shard member) (mine-newest h c) joined) number last
     (subst (λ (s : Stored). LastIs s shard number last) (replay-newest h.start h.trail) is)).0
+
+-- where a client joined a member there is a version
+there_back : (start : Stored) (shard : ShardId) (list : List Update) (es : List Entry) → StandsFor start shard list →
+    LawfulBack start es → (kind : Kind) (member c : ℕ) → JoinedAs kind (mine_back start es c) shard member →
+    (number : ℕ) × (last : ShardState) × LastIs (replay_back start es) shard number last
+there_back start shard list es st l kind member c j =
+    let base = base_of start shard list st in
+    let agree = agree_at start shard list base es l in
+    let (n, s, x, is, number) =
+    owned_version start shard base.begin.first es c member (joined_owns start shard base.start_member base.begin kind member c es j) in
+    let (low, high) = state_below shard (ever start shard es) n s (x, is) in
+    let next : end_of ((replay_back start es).logs shard) ≡ end_of (ever start shard es) = agree.next in
+    elim (stands_after start shard list base es l) [
+      | inl e ↦
+          let none : end_of ((replay_back start es).logs shard) ≡ 0 = ap end_of e.no_version in
+          absurd (omega arith)
+      | inr k ↦ (k.number, k.last, (k.newest, k.state))
+    ]
+
+pub there_law : OwnStateThere
+there_law shard list h st l kind c member joined =
+    let (number, last, is) =
+    there_back h.start shard list (reverse h.trail) st (lawful_back h l) kind member c
+    (subst (λ (own : List Answered). JoinedAs kind own shard member) (mine-newest h c) joined) in
+    (number, last, subst (λ (s : Stored). LastIs s shard number last) (sym (replay-newest h.start h.trail)) is)

@@ -68,3 +68,10 @@ OwnKindStays =
     (kind : Kind) (c member : ℕ) → JoinedAs kind (own_of h c) shard member →
     (number : ℕ) (last : ShardState) → LastIs (store_after h) shard number last →
     AllByRecursion (λ m. m.number ≡ member → m.kind ≡ kind) last.members
+
+-- Where a client joined a member there is a last state.
+abbrev pub OwnStateThere : Type 0
+OwnStateThere =
+    (shard : ShardId) (list : List Update) (h : History) → StandsFor h.start shard list → Lawful h →
+    (kind : Kind) (c member : ℕ) → JoinedAs kind (own_of h c) shard member →
+    (number : ℕ) × (last : ShardState) × LastIs (store_after h) shard number last
