@@ -1,5 +1,5 @@
 -- What a transition does to a member's kind, and to a writer that doesn't leave.
-use Rattle.std.proofs.Common.{◌≡◌, ℕ, ◌+◌, ◌<◌, Bool, true, false, List, [], ◌∷◌, ◌⊎◌, inl, inr, refl, arith, subst, sym, ap, ◌∙◌, eqb, Some, None, Option}
+use Rattle.std.proofs.Common.{◌≡◌, ℕ, ◌+◌, ◌<◌, true, false, List, [], ◌∷◌, inl, inr, refl, arith, subst, sym, ap, ◌∙◌, eqb, Some, None, Option}
 use Rattle.std.proofs.lemmas.Bool.{eqb-true}
 use Rattle.std.specs.List.{AllByRecursion}
 use Rattle.store_core.specs.declared.shards.ShardId.{ShardId}

@@ -1,5 +1,5 @@
 -- A member that a client joined as a kind, and didn't leave. Own entries go newest first.
-use Rattle.std.specs.Prelude.{◌≡◌, ℕ, ◌+◌, true, Option, Some, None, List}
+use Rattle.std.specs.Prelude.{◌≡◌, ℕ, ◌+◌, true, Option, Some, List}
 use Rattle.std.specs.List.{AllByRecursion}
 use Rattle.update_core.specs.declared.updates.Update.{Update}
 use Rattle.store_core.specs.declared.shards.ShardId.{ShardId}
@@ -12,7 +12,6 @@ use Rattle.store_core.specs.Ports.{Answered}
 use Rattle.state_core.specs.Lists.{Among}
 use Rattle.state_core.specs.declared.kinds.Kind.{Kind}
 use Rattle.state_core.specs.declared.kinds.Kind.TheVariants.{Writer}
-use Rattle.state_core.specs.declared.members.Member.{Member}
 use Rattle.state_core.specs.declared.transitions.Transition.{Transition}
 use Rattle.state_core.specs.declared.transitions.Transition.TheVariants.{Join, Leave}
 use Rattle.state_core.specs.States.{ShardState, is_writer}
