@@ -61,6 +61,8 @@ pub mod Later
 pub mod Steps
 pub mod Appends
 pub mod Members
+pub mod MemberStands
+pub mod OwnMembers
 pub mod OneAnswer
 pub mod WorkedAnswers
 pub mod Gaining

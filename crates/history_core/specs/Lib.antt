@@ -14,6 +14,7 @@ pub mod WorkedFailures
 pub mod WorkedCompacted
 pub mod Spending
 pub mod Answers
+pub mod Members
 pub mod Lasting
 pub mod Placing
 pub mod Legal

@@ -6,6 +6,7 @@ pub mod answer_laws;
 mod asked;
 pub mod lasting_laws;
 pub mod laws;
+pub mod member_laws;
 pub mod part_laws;
 mod read_answers;
 mod walks;
