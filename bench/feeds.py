@@ -1,5 +1,5 @@
 #!/usr/bin/env python3
-"""Writes a feed near the limits to standard output: few-large, many-small or distinct."""
+"""Writes a feed near the limits to standard output: few-large, many-small, distinct, or appends-N: N appends of 100 rows."""
 import sys
 
 
@@ -33,6 +33,9 @@ def feed(kind):
         for number in range(10):
             append(out, number, 60_000, 0, draw)
         out.append("snapshot 99")
+    elif kind.startswith("appends-"):
+        for number in range(int(kind.removeprefix("appends-"))):
+            append(out, number, 100, 1_000, draw)
     else:
         sys.exit(f"no such feed: {kind}")
     return "\n".join(out) + "\n"

@@ -58,11 +58,11 @@ got_later start shard m begin (f ∷ fs) es l c k b got here there h =
     ]
 
 -- what is there of the last state's keys, in a store that stands for a list
-record Here (store : Stored) (shard : ShardId) (list : List Update) (number : ℕ) (last : ShardState) : Type 0 where
+pub record Here (store : Stored) (shard : ShardId) (list : List Update) (number : ℕ) (last : ShardState) : Type 0 where
   pub collection : Collection store shard list
   pub low : floor collection.last ≤ number
 
-here_of : (store : Stored) (shard : ShardId) (list : List Update) (number : ℕ) (last : ShardState) →
+pub here_of : (store : Stored) (shard : ShardId) (list : List Update) (number : ℕ) (last : ShardState) →
     StandsFor store shard list → LastIs store shard number last → Here store shard list number last
 here_of store shard list number last (inl e) is = absurd (state_none shard (store.logs shard) number last e.no_version is.1)
 here_of store shard list number last (inr c) is =
@@ -104,7 +104,7 @@ some_keys p (b ∷ bs) k h =
           among_back (λ q. q ≡ k) b.parts (keys_of bs) (some_keys p bs k (subst (λ (t : Bool). Among (λ q. q ≡ k) (keys_of (cond t (b ∷ filter p bs) (filter p bs)))) e h))
     ]
 
-all_named : (p : Batch → Bool) (s : ShardState) → AllByRecursion (Names s) (keys_of (filter p s.batches))
+pub all_named : (p : Batch → Bool) (s : ShardState) → AllByRecursion (Names s) (keys_of (filter p s.batches))
 all_named p s = each_intro (Names s) (keys_of (filter p s.batches)) (λ k a. some_keys p s.batches k a)
 
 pub content_law : ContentGot

@@ -56,6 +56,8 @@ pub mod WorkedCollection
 pub mod WorkedCompaction
 pub mod LastingLaws
 pub mod GotRows
+pub mod StepRows
+pub mod StepStands
 pub mod Lasts
 pub mod Later
 pub mod Steps
@@ -63,6 +65,9 @@ pub mod Appends
 pub mod Members
 pub mod MemberStands
 pub mod OwnMembers
+pub mod Holding
+pub mod Quiet
+pub mod Endings
 pub mod OneAnswer
 pub mod WorkedAnswers
 pub mod Gaining

@@ -19,7 +19,7 @@ use Rattle.history_core.specs.Questions.{begun_by, ending_past}
 use Rattle.history_core.proofs.Contents.{rows_held, part_rows_one}
 use Rattle.history_core.proofs.StateSums.{state_sum_known, state_slice}
 
-all_filter : {A : Type 0} (P : A → Type 0) (p : A → Bool) (xs : List A) → AllByRecursion P xs → AllByRecursion P (filter p xs)
+pub all_filter : {A : Type 0} (P : A → Type 0) (p : A → Bool) (xs : List A) → AllByRecursion P xs → AllByRecursion P (filter p xs)
 all_filter P p [] h = h
 all_filter P p (x ∷ xs) h = elim (bool_cases (p x)) [ inl e ↦ rw e (h.0, all_filter P p xs h.1) | inr e ↦ rw e (all_filter P p xs h.1) ]
 

@@ -21,3 +21,4 @@ pub mod Legal
 pub mod Costs
 pub mod AnswerLaws
 pub mod WorkedAnswers
+pub mod StretchLaws

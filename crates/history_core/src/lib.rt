@@ -9,6 +9,7 @@ pub mod laws;
 pub mod member_laws;
 pub mod part_laws;
 mod read_answers;
+pub mod stretch_laws;
 mod walks;
 pub mod worked;
 pub mod worked_answers;

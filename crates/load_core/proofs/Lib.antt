@@ -17,3 +17,4 @@ pub mod VersionApplies
 pub mod Cutting
 pub mod SettingFollows
 pub mod GettingFollows
+pub mod Effects

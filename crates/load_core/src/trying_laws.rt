@@ -15,28 +15,31 @@ ghost use Rattle.state_core.specs.VersionReading.{most};
 ghost use Rattle.state_core.specs.declared.refusals.Refusal.{Refusal};
 ghost use Rattle.state_core.specs.declared.transitions.Transition.{Transition};
 ghost use Rattle.history_core.specs.Costs.{Within, commits_among, failed_calls, foreign_commits};
-ghost use Rattle.history_core.specs.Discipline.{Allows};
+ghost use Rattle.history_core.specs.Discipline.{Allows, Holds};
 ghost use Rattle.history_core.specs.Laws.{LastIs};
 ghost use Rattle.history_core.specs.Stands.{end_of};
 ghost use Rattle.load_core.specs.declared.damages.Damage.{Damage};
 ghost use Rattle.load_core.specs.declared.tries.Tried.{Tried};
 ghost use Rattle.load_core.specs.declared.tries.Tried.TheVariants.{Committed, Damaged, Refused, Spent};
 ghost use Rattle.load_core.specs.Attempts.{standing_refusal};
+ghost use Rattle.load_core.specs.Effects.{TriedEffect};
 ghost use Rattle.load_core.specs.Runs.{AllCarry, IsNotIn, NoneCommits};
 ghost use Rattle.load_core.specs.Outcomes.{CallsAt, Committing, MovesAt, Newest, ScansAt, TakesAt};
 ghost use Rattle.load_core.specs.declared.tryings.Trying.{Trying};
 ghost use Rattle.load_core.specs.Costing.{CostAfter, CostKept, IsPrepared};
 ghost use Rattle.load_core.specs.Fronts.{Backwards, WhereLawful};
-ghost use Rattle.load_core.specs.Following.{FollowsLoading, FollowsTrying, IsNumbered};
+ghost use Rattle.load_core.specs.Following.{FollowsLoading, FollowsTrying, HoldsNext, IsNumbered};
 ghost use Rattle.load_core.specs.Loading.{Loading, Takes, newest_after, scan_of};
 ghost use Rattle.load_core.specs.declared.loads.Loaded.{Loaded};
 ghost use Rattle.load_core.specs.declared.loads.Loaded.TheVariants.{New, Ready};
 ghost use Rattle.load_core.specs.declared.loads.Loaded.TheVariants as loads;
 ghost use Rattle.load_core.specs.Trying.{IsScanning, IsSound, Moves, Prepares, begun, call_of, called};
 
-/// The call of a transition that is tried is one that its client may make, where it follows from the client's own entries.
+/// The call of a transition that is tried is one that its client may make, where it follows from the client's own entries, and
+/// where before a Cas what it asks of the stored parts holds. That goes on to hold after any further entry.
 pub fn tried_calls_are_allowed()
-    ensures { (t : Trying) (own : List Answered) → IsSound t → FollowsTrying t own → Allows own (call_of t) }
+    ensures allowed { (t : Trying) (own : List Answered) → IsSound t → FollowsTrying t own → HoldsNext t.next t.step own → Allows own (call_of t) }
+    ensures stays { (x : Transition) (o : Answered) (own : List Answered) → Holds own x → Holds (o ∷ own) x }
 {}
 
 /// A transition that is tried follows from its client's own entries also after it was prepared, after each answer to its
@@ -159,4 +162,10 @@ pub fn costs_are_kept()
         → CallsAt t client list start e others es → (tried : Tried) → IsPrepared t.next → MovesAt t start e (others ++ es) new tried
         → new.calls < most → (base : ℕ) → 3 ≤ base → CostKept base client t start es
         → CostAfter tried base client new start (e ∷ (others ++ es)) }
+{}
+
+/// What a call of a transition that is tried commits, by what its reply comes to: the transition after the newest state, the shard's
+/// first version, or nothing, unless it failed.
+pub fn tried_effects()
+    ensures { (t new : Trying) (r : Reply) (tried : Tried) → IsSound t → Moves t r new tried → TriedEffect t r new tried }
 {}

@@ -1,112 +1,200 @@
 -- What of a plain run is written so far.
-use Rattle.std.proofs.Common.{Result, Ok, Err, ◌≡◌, ℕ, Bool, true, false, cond, Option, Some, None, List, [], ◌∷◌, ◌++◌, refl, sym, ap, subst, ◌∙◌, append_assoc}
-use Rattle.std.specs.Prelude.{IfSome, nat_le, position}
+use Rattle.std.proofs.Common.{Result, Ok, Err, ◌≡◌, ℕ, Option, List, [], ◌∷◌, ◌++◌, length, refl, sym, ap, subst, ◌∙◌, append_assoc}
+use Rattle.std.specs.Prelude.{⊤}
 use Rattle.std.proofs.lemmas.List.{append-nil}
-use Rattle.update_core.specs.Collections.{Collection, empty_collection, AppendAnswer, accepted, mismatch, heavy, append_answer, after_answer}
-use Rattle.update_core.specs.Frontiers.{covers}
-use Rattle.update_core.specs.Updates.{weight_of}
-use Rattle.update_core.specs.declared.appends.FeedAppend.{FeedAppend}
-use Rattle.feed_text.specs.declared.feed_lines.FeedLine.TheVariants.{Append, Snapshot, Listen, Since}
+use Rattle.update_core.specs.declared.updates.Update.{Update}
 use Rattle.feed_text.specs.declared.feed_lines.FeedLine.{FeedLine}
 use Rattle.feed_text.specs.declared.replies.RunReply.{RunReply}
 use Rattle.feed_text.specs.Replies.{reply_text}
 use Rattle.feed_text.specs.Streams.{Gains}
 use Rattle.feed_text.proofs.Streams.{Gains-none, Gains-append}
+use Rattle.store_core.specs.declared.entries.Entry.{Entry}
 use Rattle.store_core.specs.Stores.{Stored}
 use Rattle.store_core.specs.Histories.{History}
-use Rattle.persist_app.specs.declared.parts_faults.PartsFault.{PartsFault}
-use Rattle.persist_app.specs.declared.parts_faults.PartsFault.TheVariants as faults
-use Rattle.persist_app.specs.PlainRuns.{View, empty_view, with_own, is_outside, ranged_after, collection_after, line_after, view_of, reply_to, view_after, plain_run}
-use Rattle.persist_app.specs.StoreTurns.{Extends, Turns}
-use Rattle.persist_app.specs.PartRuns.{Keeping, Keeps, Stands, nothing_kept}
-use Rattle.persist_app.proofs.TurnLaws.{extends_by, more_turns, no_turn}
-use Rattle.persist_app.proofs.PartLaws.{empty_stands}
+use Rattle.state_core.specs.VersionReading.{most}
+use Rattle.persist_app.specs.declared.run_faults.RunFault.{RunFault}
+use Rattle.persist_app.specs.declared.run_faults.RunFault.TheVariants as runs
+use Rattle.persist_app.specs.declared.session_faults.SessionFault.{SessionFault}
+use Rattle.persist_app.specs.declared.session_faults.SessionFault.TheVariants as faults
+use Rattle.persist_app.specs.declared.sessions.Session.{Session}
+use Rattle.persist_app.specs.Answering.{AnswersLines, Closed, Executes, FailedRun, Opens, Replies, number_of}
+use Rattle.persist_app.specs.Drives.{Failed}
+use Rattle.persist_app.specs.Endings.{StaysLawful}
+use Rattle.persist_app.specs.Goings.{Goes, own_shard}
+use Rattle.persist_app.specs.PlainRuns.{View, plain_end, plain_run, reply_to, view_after}
+use Rattle.persist_app.specs.RunFaults.{fault_of}
+use Rattle.persist_app.specs.Sessions.{StartsAt, ViewAt}
+use Rattle.persist_app.proofs.DriveLaws.{scanned_before}
+use Rattle.persist_app.proofs.GoingLaws.{Between, going_so, more_going, no_going}
+use Rattle.persist_app.proofs.Views.{accepted_stands, starts_somehow, view_accepted}
 
--- the sink has gained the run's text but for that of the commands that are left
-pub record RunSoFar (taken now : Option (List ℕ)) (all : List FeedLine) (view : View) (rest : List FeedLine) : Type 0 where
+-- the sink has gained the run's text but for that of the commands that are left, and these end with the run's view
+pub record RunSoFar (taken now : Option (List ℕ)) (all : List FeedLine) (first view : View) (rest : List FeedLine) : Type 0 where
   pub done : List ℕ
   pub gained : Gains taken now done
-  pub split : plain_run empty_view all ≡ done ++ plain_run view rest
+  pub split : plain_run first all ≡ done ++ plain_run view rest
+  pub end : plain_end first all ≡ plain_end view rest
 
-pub run_starts : (taken : Option (List ℕ)) (all : List FeedLine) → RunSoFar taken taken all empty_view all
-run_starts taken all = record { done = []; gained = Gains-none taken; split = refl }
+pub run_starts : (taken : Option (List ℕ)) (all : List FeedLine) (view : View) → RunSoFar taken taken all view view all
+run_starts taken all view = record { done = []; gained = Gains-none taken; split = refl; end = refl }
 
 -- the text of one reply more
-pub run_goes_on : (taken before now : Option (List ℕ)) (all : List FeedLine) (view next : View) (line : FeedLine) (rest : List FeedLine) (text : List ℕ) → RunSoFar taken before all view (line ∷ rest)
-    → text ≡ reply_text (reply_to view line) → next ≡ view_after view line → Gains before now text → RunSoFar taken now all next rest
-run_goes_on taken before now all view next line rest text so_far is then more = record {
+pub run_goes_on : (taken before now : Option (List ℕ)) (all : List FeedLine) (first view : View) (line : FeedLine) (rest : List FeedLine) (text : List ℕ) → RunSoFar taken before all first view (line ∷ rest) →
+    text ≡ reply_text (reply_to view line) → Gains before now text → RunSoFar taken now all first (view_after view line) rest
+run_goes_on taken before now all first view line rest text so_far is more = record {
   done = so_far.done ++ text;
   gained = Gains-append taken before now so_far.done text so_far.gained more;
-  split = so_far.split ∙ ap (λ t. so_far.done ++ (t ++ plain_run (view_after view line) rest)) (sym is) ∙ ap (λ v. so_far.done ++ (text ++ plain_run v rest)) (sym then) ∙ sym (append_assoc so_far.done text (plain_run next rest));
+  split = so_far.split ∙ ap (λ t. so_far.done ++ (t ++ plain_run (view_after view line) rest)) (sym is) ∙ sym (append_assoc so_far.done text (plain_run (view_after view line) rest));
+  end = so_far.end;
 }
 
 -- all of it
-pub run_ends : (taken now : Option (List ℕ)) (all : List FeedLine) (view : View) → RunSoFar taken now all view [] → Gains taken now (plain_run empty_view all)
-run_ends taken now all view so_far = subst (λ t. Gains taken now t) (sym (so_far.split ∙ append-nil so_far.done)) so_far.gained
+pub run_ends : (taken now : Option (List ℕ)) (all : List FeedLine) (first view : View) → RunSoFar taken now all first view [] → Gains taken now (plain_run first all) × (plain_end first all ≡ view)
+run_ends taken now all first view so_far = (subst (λ t. Gains taken now t) (sym (so_far.split ∙ append-nil so_far.done)) so_far.gained, so_far.end)
 
--- ---- over a collection in parts
+-- ---- over a store
 
--- where the history is told, the store and what is kept stand for the collection to which the run has come
-abbrev pub RunOver : Option History → Option History → Option (List ℕ) → Option (List ℕ) → List FeedLine → Keeping → List FeedLine → Type 0
-RunOver a b taken now all k rest = Turns a b (λ s t. (c : Collection) × Stands t k c × RunSoFar taken now all (view_of c) rest)
+-- where the run had a view at its begin, it has one now, and the run has come so far
+abbrev pub Comes : ℕ → Option (List ℕ) → Option (List ℕ) → List FeedLine → List FeedLine → List Update → Stored → List Entry → List Entry → Type 0
+Comes reader taken taken_now all rest list start es now =
+    (view : View) → ViewAt own_shard list start es reader view → (next : View) × ViewAt own_shard list start now reader next × RunSoFar taken taken_now all view next rest
 
--- what a command comes to
-abbrev pub Answered : FeedLine → Keeping → Keeping → Result RunReply PartsFault → Stored → Stored → Type 0
-Answered line k next result s t = (c : Collection) → Stands s k c → Keeps (reply_to (view_of c) line) (line_after c line) t next result
+abbrev pub RunOver : ℕ → Option History → Option History → Option (List ℕ) → Option (List ℕ) → List FeedLine → List FeedLine → Type 0
+RunOver reader a b taken taken_now all rest = Goes a b (Comes reader taken taken_now all rest)
 
-pub run_over_starts : (a : Option History) (taken : Option (List ℕ)) (all : List FeedLine) → RunOver a a taken taken all nothing_kept all
-run_over_starts a taken all = no_turn a (λ s t. (c : Collection) × Stands t nothing_kept c × RunSoFar taken taken all (view_of c) all) (λ s. (empty_collection, empty_stands s, run_starts taken all))
+pub run_over_starts : (reader : ℕ) (a : Option History) (taken : Option (List ℕ)) (all : List FeedLine) → RunOver reader a a taken taken all all
+run_over_starts reader a taken all = no_going a (Comes reader taken taken all all) (λ list start es view v. (view, v, run_starts taken all view))
 
--- no append changes the since
-append_keeps_since : (c : Collection) (a : FeedAppend) → (collection_after c a).since ≡ c.since
-append_keeps_since c a = filled (covers a.upper a.lower)
+pub run_over_goes_on : (reader : ℕ) (a b d : Option History) (taken before now : Option (List ℕ)) (all had rest : List FeedLine) (line : FeedLine) (reply : RunReply) (text : List ℕ) → had ≡ line ∷ rest →
+    RunOver reader a b taken before all had → Goes b d (Replies reader (λ view. reply_to view line) (λ view. view_after view line) (Ok reply)) → text ≡ reply_text reply → Gains before now text →
+    RunOver reader a d taken now all rest
+run_over_goes_on reader a b d taken before now all had rest line reply text split so_far told is more =
+    more_going a b d (Comes reader taken before all had) (Replies reader (λ view. reply_to view line) (λ view. view_after view line) (Ok reply)) (Comes reader taken now all rest) so_far told
+    (λ list start es mid fs b1 b2 come replied view v.
+    let (next, at, so) = come view v in
+    let (same, after) = replied next at in
+    let here : RunSoFar taken before all view next (line ∷ rest) = subst (RunSoFar taken before all view next) split so in
+    (view_after next line, after, run_goes_on taken before now all view next line rest text here (is ∙ ap reply_text same) more))
+
+pub run_over_ends : (reader : ℕ) (a b : Option History) (taken now : Option (List ℕ)) (all rest : List FeedLine) → rest ≡ [] → RunOver reader a b taken now all rest → Goes a b (AnswersLines reader all taken now (Ok tt))
+run_over_ends reader a b taken now all rest none so_far =
+    going_so a b (Comes reader taken now all rest) (AnswersLines reader all taken now (Ok tt)) so_far (λ list start es fs bt come view v.
+    let (next, at, so) = come view v in
+    let (gained, end) = run_ends taken now all view next (subst (RunSoFar taken now all view next) none so) in
+    (gained, subst (λ (w : View). ViewAt own_shard list start fs reader w) (sym end) at))
+
+-- a session's fault is one of the run
+failed_run : (fault : SessionFault) (list : List Update) (start : Stored) (es mid now : List Entry) → Between list start es mid → Failed fault start mid now → FailedRun (fault_of fault) start es now
+failed_run faults.Memory list start es mid now b h = tt
+failed_run faults.Store list start es mid now b h = tt
+failed_run faults.Damaged list start es mid now b h = absurd h
+failed_run faults.MembersFull list start es mid now b h = scanned_before (λ n s. length s.members ≡ 256) list start es mid now b h
+failed_run faults.Spent list start es mid now b h = scanned_before (λ n s. n ≡ most) list start es mid now b h
+
+-- a command that gave no reply
+pub run_over_fails : (reader : ℕ) (a b d : Option History) (taken before now : Option (List ℕ)) (all had : List FeedLine) (line : FeedLine) (fault : SessionFault) → RunOver reader a b taken before all had →
+    Goes b d (Replies reader (λ view. reply_to view line) (λ view. view_after view line) (Err fault)) → Goes a d (AnswersLines reader all taken now (Err (fault_of fault)))
+run_over_fails reader a b d taken before now all had line faults.Damaged so_far told =
+    more_going a b d (Comes reader taken before all had) (Replies reader (λ view. reply_to view line) (λ view. view_after view line) (Err faults.Damaged)) (AnswersLines reader all taken now (Err runs.Damaged)) so_far told
+    (λ list start es mid fs b1 b2 come replied view v. let (next, at, so) = come view v in replied next at)
+run_over_fails reader a b d taken before now all had line faults.Memory so_far told =
+    more_going a b d (Comes reader taken before all had) (Replies reader (λ view. reply_to view line) (λ view. view_after view line) (Err faults.Memory)) (AnswersLines reader all taken now (Err runs.Memory)) so_far told
+    (λ list start es mid fs b1 b2 come h. failed_run faults.Memory list start es mid fs b1 h)
+run_over_fails reader a b d taken before now all had line faults.Store so_far told =
+    more_going a b d (Comes reader taken before all had) (Replies reader (λ view. reply_to view line) (λ view. view_after view line) (Err faults.Store)) (AnswersLines reader all taken now (Err runs.Store)) so_far told
+    (λ list start es mid fs b1 b2 come h. failed_run faults.Store list start es mid fs b1 h)
+run_over_fails reader a b d taken before now all had line faults.MembersFull so_far told =
+    more_going a b d (Comes reader taken before all had) (Replies reader (λ view. reply_to view line) (λ view. view_after view line) (Err faults.MembersFull)) (AnswersLines reader all taken now (Err runs.MembersFull)) so_far told
+    (λ list start es mid fs b1 b2 come h. failed_run faults.MembersFull list start es mid fs b1 h)
+run_over_fails reader a b d taken before now all had line faults.Spent so_far told =
+    more_going a b d (Comes reader taken before all had) (Replies reader (λ view. reply_to view line) (λ view. view_after view line) (Err faults.Spent)) (AnswersLines reader all taken now (Err runs.Spent)) so_far told
+    (λ list start es mid fs b1 b2 come h. failed_run faults.Spent list start es mid fs b1 h)
+
+-- memory or the sink failed after a reply
+pub run_over_stops : (reader : ℕ) (a b d : Option History) (taken before now : Option (List ℕ)) (all had : List FeedLine) (how : List Update → Stored → List Entry → List Entry → Type 0) (fault : RunFault) →
+    ((list : List Update) (start : Stored) (es fs : List Entry) → AnswersLines reader all taken now (Err fault) list start es fs) → RunOver reader a b taken before all had → Goes b d how → Goes a d (AnswersLines reader all taken now (Err fault))
+run_over_stops reader a b d taken before now all had how fault any so_far told =
+    more_going a b d (Comes reader taken before all had) how (AnswersLines reader all taken now (Err fault)) so_far told (λ list start es mid fs b1 b2 come h. any list start es fs)
+
+-- ---- a run, from its open to its close
+
+pub open_fails : (a b : Option History) (all : List FeedLine) (taken now : Option (List ℕ)) (fault : SessionFault) → Goes a b (λ list start es fs. Failed fault start es fs) → Goes a b (Executes all taken now (Err (fault_of fault)))
+open_fails a b all taken now fault went =
+    going_so a b (λ list start es fs. Failed fault start es fs) (Executes all taken now (Err (fault_of fault))) went (λ list start es fs bt h. failed_run fault list start es es fs (itself list start es fs bt) h)
   where
-    answered : (x : AppendAnswer) → (after_answer x c a.rows a.upper (weight_of a.rows)).since ≡ c.since
-    answered accepted = refl
-    answered (mismatch u) = refl
-    answered (heavy w) = refl
+    itself : (list : List Update) (start : Stored) (es fs : List Entry) → Between list start es fs → Between list start es es
+    itself list start es fs bt = record { stands = bt.stands; lawful = bt.lawful; lawful_now = bt.lawful; more = []; split = refl }
 
-    ranged : (p : Option ℕ) → (ranged_after p c a).since ≡ c.since
-    ranged (Some row) = refl
-    ranged None = answered (append_answer c a.lower (weight_of a.rows))
+-- a run that failed within later entries has failed
+run_later : (fault : RunFault) (list : List Update) (start : Stored) (es mid now : List Entry) → Between list start es mid → FailedRun fault start mid now → FailedRun fault start es now
+run_later runs.Memory list start es mid now b h = tt
+run_later runs.Sink list start es mid now b h = tt
+run_later runs.Store list start es mid now b h = tt
+run_later runs.Damaged list start es mid now b h = h
+run_later runs.MembersFull list start es mid now b h = scanned_before (λ n s. length s.members ≡ 256) list start es mid now b h
+run_later runs.Spent list start es mid now b h = scanned_before (λ n s. n ≡ most) list start es mid now b h
 
-    filled : (b : Bool) → (cond b (ranged_after (position (is_outside a) a.rows) c a) c).since ≡ c.since
-    filled true = ranged (position (is_outside a) a.rows)
-    filled false = refl
+-- the commands failed
+pub lines_fail : (a b d : Option History) (s : Session) (all : List FeedLine) (taken now : Option (List ℕ)) (fault : RunFault) → Goes a b (Opens (Ok s)) → Goes b d (AnswersLines (number_of s.reader) all taken now (Err fault)) →
+    Goes a d (Executes all taken now (Err fault))
+lines_fail a b d s all taken now runs.Damaged x y =
+    more_going a b d (Opens (Ok s)) (AnswersLines (number_of s.reader) all taken now (Err runs.Damaged)) (Executes all taken now (Err runs.Damaged)) x y
+    (λ list start es mid fs b1 b2 opened damaged. let (view, at) = starts_somehow own_shard list start es b1.stands b1.lawful in damaged view (opened view at))
+lines_fail a b d s all taken now runs.Memory x y =
+    more_going a b d (Opens (Ok s)) (AnswersLines (number_of s.reader) all taken now (Err runs.Memory)) (Executes all taken now (Err runs.Memory)) x y
+    (λ list start es mid fs b1 b2 opened h. run_later runs.Memory list start es mid fs b1 h)
+lines_fail a b d s all taken now runs.Sink x y =
+    more_going a b d (Opens (Ok s)) (AnswersLines (number_of s.reader) all taken now (Err runs.Sink)) (Executes all taken now (Err runs.Sink)) x y
+    (λ list start es mid fs b1 b2 opened h. run_later runs.Sink list start es mid fs b1 h)
+lines_fail a b d s all taken now runs.Store x y =
+    more_going a b d (Opens (Ok s)) (AnswersLines (number_of s.reader) all taken now (Err runs.Store)) (Executes all taken now (Err runs.Store)) x y
+    (λ list start es mid fs b1 b2 opened h. run_later runs.Store list start es mid fs b1 h)
+lines_fail a b d s all taken now runs.MembersFull x y =
+    more_going a b d (Opens (Ok s)) (AnswersLines (number_of s.reader) all taken now (Err runs.MembersFull)) (Executes all taken now (Err runs.MembersFull)) x y
+    (λ list start es mid fs b1 b2 opened h. run_later runs.MembersFull list start es mid fs b1 h)
+lines_fail a b d s all taken now runs.Spent x y =
+    more_going a b d (Opens (Ok s)) (AnswersLines (number_of s.reader) all taken now (Err runs.Spent)) (Executes all taken now (Err runs.Spent)) x y
+    (λ list start es mid fs b1 b2 opened h. run_later runs.Spent list start es mid fs b1 h)
 
-after_is : (c : Collection) (line : FeedLine) → view_of (line_after c line) ≡ view_after (view_of c) line
-after_is c (Append a) = λ i. record { collection = collection_after c a; own = append_keeps_since c a i; readers = [] }
-after_is c (Snapshot t) = refl
-after_is c (Listen t) = refl
-after_is c (Since to) = moved (nat_le c.since to)
-  where
-    moved : (b : Bool) → view_of (cond b (record c { since = to }) c) ≡ cond b (with_own (view_of c) to) (view_of c)
-    moved true = refl
-    moved false = refl
+-- the close failed
+pub close_fails : (a b d : Option History) (how : List Update → Stored → List Entry → List Entry → Type 0) (all : List FeedLine) (taken now : Option (List ℕ)) (fault : SessionFault) → Goes a b how →
+    Goes b d (λ list start es fs. Failed fault start es fs) → Goes a d (Executes all taken now (Err (fault_of fault)))
+close_fails a b d how all taken now fault x y =
+    more_going a b d how (λ list start es fs. Failed fault start es fs) (Executes all taken now (Err (fault_of fault))) x y (λ list start es mid fs b1 b2 so h. failed_run fault list start es mid fs b1 h)
 
-pub run_over_goes_on : (a b d : Option History) (taken before now : Option (List ℕ)) (all had rest : List FeedLine) (k next : Keeping) (line : FeedLine) (reply : RunReply) (text : List ℕ) → had ≡ line ∷ rest → RunOver a b taken before all k had
-    → Turns b d (Answered line k next (Ok reply)) → text ≡ reply_text reply → Gains before now text → RunOver a d taken now all next rest
-run_over_goes_on a b d taken before now all had rest k next line reply text split so_far told is more =
-    more_turns a b d (λ s t. (c : Collection) × Stands t k c × RunSoFar taken before all (view_of c) had) (Answered line k next (Ok reply)) (λ s t. (c : Collection) × Stands t next c × RunSoFar taken now all (view_of c) rest) so_far told
-    (λ s t u x y.
-    let z = y x.0 x.1 in
-    let here : RunSoFar taken before all (view_of x.0) (line ∷ rest) = subst (RunSoFar taken before all (view_of x.0)) split x.2 in
-    (line_after x.0 line, z.1, run_goes_on taken before now all (view_of x.0) (view_of (line_after x.0 line)) line rest text here (is ∙ ap reply_text z.0) (after_is x.0 line) more))
+-- what the session's open and the commands have come to
+pub lines_done : (a b d : Option History) (s : Session) (all : List FeedLine) (taken now : Option (List ℕ)) → Goes a b (Opens (Ok s)) → Goes b d (AnswersLines (number_of s.reader) all taken now (Ok tt)) →
+    Goes a d (λ list start es fs. (view : View) → StartsAt own_shard list start es view → Gains taken now (plain_run view all) × ViewAt own_shard list start fs (number_of s.reader) (plain_end view all))
+lines_done a b d s all taken now x y =
+    more_going a b d (Opens (Ok s)) (AnswersLines (number_of s.reader) all taken now (Ok tt))
+    (λ list start es fs. (view : View) → StartsAt own_shard list start es view → Gains taken now (plain_run view all) × ViewAt own_shard list start fs (number_of s.reader) (plain_end view all)) x y
+    (λ list start es mid fs b1 b2 opened lines view at. lines view (opened view at))
 
-pub run_over_ends : (a b : Option History) (taken now : Option (List ℕ)) (all rest : List FeedLine) (k : Keeping) → rest ≡ [] → RunOver a b taken now all k rest → IfSome a (λ h. Gains taken now (plain_run empty_view all))
-run_over_ends None b taken now all rest k none so_far = tt
-run_over_ends (Some h) b taken now all rest k none so_far = let x = so_far.3 in run_ends taken now all (view_of x.0) (subst (RunSoFar taken now all (view_of x.0)) none x.2)
+-- all of it was done
+pub run_done : (a b d : Option History) (reader : ℕ) (all : List FeedLine) (taken now : Option (List ℕ)) →
+    Goes a b (λ list start es fs. (view : View) → StartsAt own_shard list start es view → Gains taken now (plain_run view all) × ViewAt own_shard list start fs reader (plain_end view all)) →
+    Goes b d (Closed (Ok tt)) → Goes a d (Executes all taken now (Ok tt))
+run_done a b d reader all taken now x y =
+    more_going a b d (λ list start es fs. (view : View) → StartsAt own_shard list start es view → Gains taken now (plain_run view all) × ViewAt own_shard list start fs reader (plain_end view all)) (Closed (Ok tt)) (Executes all taken now (Ok tt)) x y
+    (λ list start es mid fs b1 b2 lines closed view at.
+    let (gained, v) = lines view at in
+    (gained, accepted_stands own_shard list (plain_end view all).collection.updates start fs b2.stands b2.lawful_now (closed ∙ view_accepted own_shard list start mid reader (plain_end view all) v)))
 
--- no store that tells its history is damaged
-pub run_undamaged : (a b d : Option History) (taken now : Option (List ℕ)) (all had : List FeedLine) (k next : Keeping) (line : FeedLine) → RunOver a b taken now all k had → Turns b d (Answered line k next (Err faults.Damaged)) → a ≡ None
-run_undamaged a b d taken now all had k next line so_far told =
-    never a (more_turns a b d (λ s t. (c : Collection) × Stands t k c × RunSoFar taken now all (view_of c) had) (Answered line k next (Err faults.Damaged)) (λ s t. ⊥) so_far told (λ s t u x y. y x.0 x.1))
-  where
-    never : (v : Option History) → Turns v d (λ s t. ⊥) → v ≡ None
-    never None h = refl
-    never (Some w) h = absurd h.3
+-- a store that failed the run failed the session
+pub store_fault : (fault : SessionFault) → fault_of fault ≡ runs.Store → fault ≡ faults.Store
+store_fault faults.Store is = refl
+store_fault faults.Memory is = cc
+store_fault faults.Damaged is = cc
+store_fault faults.MembersFull is = cc
+store_fault faults.Spent is = cc
 
--- the history has grown
-pub run_over_extends : (a b d : Option History) (taken now : Option (List ℕ)) (all had : List FeedLine) (k next : Keeping) (line : FeedLine) (result : Result RunReply PartsFault) → RunOver a b taken now all k had → Turns b d (Answered line k next result) → Extends a d
-run_over_extends a b d taken now all had k next line result so_far told =
-    extends_by a d (λ s t. Unit {0}) (more_turns a b d (λ s t. (c : Collection) × Stands t k c × RunSoFar taken now all (view_of c) had) (Answered line k next result) (λ s t. Unit {0}) so_far told (λ s t u x y. tt))
+pub err_same : (r : Result Unit RunFault) (x y : RunFault) → r ≡ Err x → r ≡ Err y → x ≡ y
+err_same r x y a b = cc
+
+-- where it was lawful it still is, whatever else is so
+pub stays_lawful : (a b : Option History) (how : List Update → Stored → List Entry → List Entry → Type 0) → Goes a b how → StaysLawful a b
+stays_lawful a b how went = going_so a b how (λ list start es now. ⊤) went (λ list start es now bt h. tt)
+
+-- nothing was done
+pub rests_lawful : (a : Option History) → StaysLawful a a
+rests_lawful a = no_going a (λ list start es now. ⊤) (λ list start es. tt)

@@ -30,9 +30,9 @@ fault_had (Some whole) now text number took fault =
     (whole, refl, fault_in_front whole number (subst (λ t. IsFirstFault t number) (sym front) fault))) (cases_lt (length text) (MAX_BYTES + 1))
 
 -- what a run comes to is told by what has become of the text that was read
-pub run_from_text : (ending : Ending) (told : Option History) (left now : Option (List ℕ)) (text : List ℕ) (taken taken_now : Option (List ℕ)) (reads reads_now puts puts_now : ℕ)
-    → TakesAll (MAX_BYTES + 1) left now text → AnswersText ending told text taken taken_now puts puts_now → EndsRun ending told left now reads reads_now taken taken_now puts puts_now
-run_from_text endings.Complete told left now text taken taken_now reads reads_now puts puts_now took answered =
+pub run_from_text : (ending : Ending) (told told_now : Option History) (left now : Option (List ℕ)) (text : List ℕ) (taken taken_now : Option (List ℕ)) (reads reads_now puts puts_now : ℕ)
+    → TakesAll (MAX_BYTES + 1) left now text → AnswersText ending told told_now text taken taken_now puts puts_now → EndsRun ending told told_now left now reads reads_now taken taken_now puts puts_now
+run_from_text endings.Complete told told_now left now text taken taken_now reads reads_now puts puts_now took answered =
     let short : length text < MAX_BYTES + 1 = omega (arith, answered.1.few) in
     record {
       text = text;
@@ -42,20 +42,22 @@ run_from_text endings.Complete told left now text taken taken_now reads reads_no
       spells = answered.1;
       written = answered.2;
     }
-run_from_text endings.NoCommand told left now text taken taken_now reads reads_now puts puts_now took answered = absurd answered
-run_from_text (endings.BadLine number) told left now text taken taken_now reads reads_now puts puts_now took answered =
+run_from_text endings.NoCommand told told_now left now text taken taken_now reads reads_now puts puts_now took answered = absurd answered
+run_from_text (endings.BadLine number) told told_now left now text taken taken_now reads reads_now puts puts_now took answered =
     let whole = fault_had left now text number took answered.0 in (whole.0, whole.1, whole.2, answered.1)
-run_from_text endings.InputFailed told left now text taken taken_now reads reads_now puts puts_now took answered = absurd answered
-run_from_text endings.OutputFailed told left now text taken taken_now reads reads_now puts puts_now took answered = answered
-run_from_text endings.StoreFailed told left now text taken taken_now reads reads_now puts puts_now took answered = tt
-run_from_text endings.Memory told left now text taken taken_now reads reads_now puts puts_now took answered = tt
-run_from_text endings.Damaged told left now text taken taken_now reads reads_now puts puts_now took answered = tt
+run_from_text endings.InputFailed told told_now left now text taken taken_now reads reads_now puts puts_now took answered = absurd answered
+run_from_text endings.OutputFailed told told_now left now text taken taken_now reads reads_now puts puts_now took answered = answered
+run_from_text endings.StoreFailed told told_now left now text taken taken_now reads reads_now puts puts_now took answered = tt
+run_from_text endings.Memory told told_now left now text taken taken_now reads reads_now puts puts_now took answered = tt
+run_from_text endings.Damaged told told_now left now text taken taken_now reads reads_now puts puts_now took answered = answered
+run_from_text endings.MembersFull told told_now left now text taken taken_now reads reads_now puts puts_now took answered = answered
+run_from_text endings.Spent told told_now left now text taken taken_now reads reads_now puts puts_now took answered = answered
 
 -- a command that ends at a line, with the line written
-pub line_refused : (words : List (List ℕ)) (ending : Ending) (told : Option History) (number : ℕ) (left now : Option (List ℕ)) (reads reads_now : ℕ) (taken between taken_now : Option (List ℕ)) (puts puts_now : ℕ)
-    → Performs words ending told left now reads reads_now taken between puts puts_now → ending ≡ endings.BadLine number → Gains between taken_now (line_fault_text number) → IsRun words × RefusesLine left taken taken_now
-line_refused words ending told number left now reads reads_now taken between taken_now puts puts_now performed is written =
-    let stopped = subst (λ e. Performs words e told left now reads reads_now taken between puts puts_now) is performed in (
+pub line_refused : (words : List (List ℕ)) (ending : Ending) (told told_now : Option History) (number : ℕ) (left now : Option (List ℕ)) (reads reads_now : ℕ) (taken between taken_now : Option (List ℕ)) (puts puts_now : ℕ)
+    → Performs words ending told told_now left now reads reads_now taken between puts puts_now → ending ≡ endings.BadLine number → Gains between taken_now (line_fault_text number) → IsRun words × RefusesLine left taken taken_now
+line_refused words ending told told_now number left now reads reads_now taken between taken_now puts puts_now performed is written =
+    let stopped = subst (λ e. Performs words e told told_now left now reads reads_now taken between puts puts_now) is performed in (
       stopped.0,
       record {
         text = stopped.1;

@@ -59,6 +59,10 @@ append_reply c a = if covers a.upper a.lower then ranged_reply (position (is_out
 abbrev pub collection_after : Collection → FeedAppend → Collection
 collection_after c a = if covers a.upper a.lower then ranged_after (position (is_outside a) a.rows) c a else c
 
+-- the view with another collection
+abbrev pub view_with : View → Collection → View
+view_with view c = record { collection = c; own = view.own; readers = view.readers }
+
 -- A new since of the reader with this one is accepted exactly where it isn't below.
 abbrev pub since_reply : ℕ → ℕ → RunReply
 since_reply own to = if nat_le own to then replies.Accepted else replies.Back own
@@ -88,27 +92,21 @@ reply_to view (Listen t) = listen_text (listen_answer view.collection (after t))
 reply_to view (Since to) = since_reply view.own to
 
 abbrev pub view_after : View → FeedLine → View
-view_after view (Append a) = record { collection = collection_after view.collection a; own = view.own; readers = view.readers }
+view_after view (Append a) = view_with view (collection_after view.collection a)
 view_after view (Snapshot t) = view
 view_after view (Listen t) = view
 view_after view (Since to) = view_since view to
-
--- the collection after a command, where no other reader stands
-abbrev pub line_after : Collection → FeedLine → Collection
-line_after c (Append a) = collection_after c a
-line_after c (Snapshot t) = c
-line_after c (Listen t) = c
-line_after c (Since to) = collection_since c to
 
 -- the replies to the commands in turn
 abbrev pub plain_replies : View → List FeedLine → List RunReply
 plain_replies view [] = []
 plain_replies view (line ∷ lines) = reply_to view line ∷ plain_replies (view_after view line) lines
 
+-- the view after them
+abbrev pub plain_end : View → List FeedLine → View
+plain_end view [] = view
+plain_end view (line ∷ lines) = plain_end (view_after view line) lines
+
 -- the text of a plain run
 abbrev pub plain_run : View → List FeedLine → List ℕ
 plain_run view lines = flat_map reply_text (plain_replies view lines)
-
--- the view of a collection that has no reader but the run's own
-abbrev pub view_of : Collection → View
-view_of c = record { collection = c; own = c.since; readers = [] }

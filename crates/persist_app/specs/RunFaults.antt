@@ -1,11 +1,20 @@
 -- Faults of a run.
-use Rattle.persist_app.specs.declared.parts_faults.PartsFault.{PartsFault}
-use Rattle.persist_app.specs.declared.parts_faults.PartsFault.TheVariants as parts
+use Rattle.load_core.specs.declared.begin_faults.BeginFault.{BeginFault}
+use Rattle.load_core.specs.declared.begin_faults.BeginFault.TheVariants as begins
+use Rattle.persist_app.specs.declared.session_faults.SessionFault.{SessionFault}
+use Rattle.persist_app.specs.declared.session_faults.SessionFault.TheVariants as sessions
 use Rattle.persist_app.specs.declared.run_faults.RunFault.{RunFault}
 use Rattle.persist_app.specs.declared.run_faults.RunFault.TheVariants as runs
 
--- what a fault of a collection in parts makes of a run
-abbrev pub fault_of : PartsFault → RunFault
-fault_of parts.Memory = runs.Memory
-fault_of parts.Store = runs.Store
-fault_of parts.Damaged = runs.Damaged
+-- what it is for a session that a command can't be begun
+abbrev pub begin_fault : BeginFault → SessionFault
+begin_fault begins.Memory = sessions.Memory
+begin_fault _ = sessions.Damaged
+
+-- what a fault of a session makes of a run
+abbrev pub fault_of : SessionFault → RunFault
+fault_of sessions.Memory = runs.Memory
+fault_of sessions.Store = runs.Store
+fault_of sessions.Damaged = runs.Damaged
+fault_of sessions.MembersFull = runs.MembersFull
+fault_of sessions.Spent = runs.Spent

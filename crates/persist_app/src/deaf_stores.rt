@@ -1,13 +1,13 @@
-// A store that keeps nothing and tells nothing.
+// A store that answers each Get as it is told to.
 ghost use Rattle.std.specs.Prelude.{None};
 
-use std::alloc::{AllocError, Global};
-use store_core::{Bytes, Call, Reply, Store, VersionList};
+use std::alloc::AllocError;
+use store_core::{Bytes, Call, MemStore, Reply, Store};
 
-/// A store that keeps nothing, tells nothing, and answers each Get with the same bytes, or with none.
+/// A store that answers each Get with the same bytes, or with none, and all else as a store in memory. It tells nothing.
 #[derive(Drop)]
 pub struct DeafStore {
-    pub alloc: Global,
+    pub store: MemStore,
     pub bytes: Option<Bytes>,
 }
 
@@ -24,20 +24,15 @@ fn copied(bytes: &Option<Bytes>) -> Result<Option<Bytes>, AllocError> {
 impl Store for DeafStore {
     ghost history = { λ _. None };
 
-    ghost faults = { λ _. 0 };
+    ghost faults = { λ s. ⟦<MemStore as Store>⟧.faults s.store };
 
-    fn call(&mut self, _client: u64, call: &Call) -> Result<Reply, AllocError> {
+    fn call(&mut self, client: u64, call: &Call) -> Result<Reply, AllocError> {
         match call {
-            Call::Head { .. } => Ok(Reply::Version(None)),
-            Call::Scan { .. } => Ok(Reply::Versions(VersionList::new(self.alloc))),
-            Call::Cas { .. } => Ok(Reply::Mismatch),
-            Call::Truncate { .. } => Ok(Reply::Truncated),
             Call::Get { .. } => {
                 let bytes = copied(&self.bytes)?;
                 Ok(Reply::Bytes(bytes))
             }
-            Call::Set { .. } => Ok(Reply::Stored),
-            Call::Delete { .. } => Ok(Reply::Deleted),
+            _ => self.store.call(client, call),
         }
     }
 }

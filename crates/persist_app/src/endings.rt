@@ -17,6 +17,10 @@ pub enum Ending {
     StoreFailed,
     /// Memory was refused.
     Memory,
-    /// A part in the store is damaged.
+    /// The shard in the store is damaged.
     Damaged,
+    /// As many members stand in the shard as can.
+    MembersFull,
+    /// The shard has its last version.
+    Spent,
 }

@@ -3,19 +3,17 @@
 
 mod clocks;
 mod collections;
+mod drives;
 mod endings;
 mod ends;
-mod kept_appends;
-mod part_collections;
-mod part_reads;
-mod part_writes;
-mod parts_faults;
 mod plain;
 mod run_faults;
 mod runs;
+mod session_faults;
+mod sessions;
+mod sole_ports;
 mod statuses;
 mod system_clocks;
-mod wanted_appends;
 mod words;
 
 pub use clocks::{Clock, FixedClock};

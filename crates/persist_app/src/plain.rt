@@ -1,15 +1,16 @@
 // The call that `persist_main` makes.
-ghost use Rattle.std.specs.Prelude.{◌≡◌, ◌≤◌, ◌+◌, ◌⊎◌, None, map, string_bytes};
+ghost use Rattle.std.specs.Prelude.{◌≡◌, ◌≤◌, ◌+◌, ◌⊎◌, map, string_bytes};
 ghost use Rattle.causes.specs.Causes.{Rose};
 ghost use Rattle.feed_text.specs.declared.limits.TheConstants.{MAX_BYTES};
 ghost use Rattle.feed_text.specs.Streams.{Gains, ReadsUpTo};
 ghost use Rattle.persist_app.specs.StoreTurns.{Extends, StoreFailed};
-ghost use Rattle.persist_app.specs.Endings.{EndsWith, Finishes, IsRun, IsStatus, Performs, RunsPlainly, RefusesLine, Spares, input_failed_text, words_text};
+ghost use Rattle.persist_app.specs.Endings.{EndsWith, Finishes, FoundFull, FoundSpent, IsRun, IsStatus, NoCollection, Performs, RunsPlainly, RefusesLine, Spares, StaysLawful, input_failed_text, words_text};
 
 use crate::clocks::Clock;
 use crate::endings::Ending;
 use crate::ends::Ended;
 use crate::runs::run;
+use crate::sole_ports::SolePort;
 use crate::statuses::Status;
 use crate::words::is_run;
 use feed_text::{Sink, Source, print_line_fault, put_all};
@@ -51,36 +52,38 @@ fn finish<Si: Sink>(alloc: Global, ending: Ending, out: &mut Si) -> u8
         Ending::StoreFailed => end_with(out, b"store failed\n", Status::Store as u8),
         Ending::Memory => end_with(out, b"memory\n", Status::Memory as u8),
         Ending::Damaged => end_with(out, b"damaged\n", Status::Damaged as u8),
+        Ending::MembersFull => end_with(out, b"members full\n", Status::MembersFull as u8),
+        Ending::Spent => end_with(out, b"spent\n", Status::Spent as u8),
     }
 }
 
 // Does what the words say, but for the last line.
-#[tactic(auto, using(crate::proofs::TurnLaws::extends_itself))]
+#[tactic(auto, using(crate::proofs::RunLaws::rests_lawful))]
 fn perform<So: Source, Si: Sink, S: Store>(
     alloc: Global,
     words: &[String],
     src: &mut So,
     out: &mut Si,
-    store: &mut S,
+    port: &mut SolePort<S>,
+    now: u64,
 ) -> Ending
-    ensures ends { Performs (map string_bytes words.now) result (S.history store.old) (So.left src.old) (So.left src.new) (So.faults src.old) (So.faults src.new)
+    ensures ends { Performs (map string_bytes words.now) result (S.history port.old.store) (S.history port.new.store) (So.left src.old) (So.left src.new) (So.faults src.old) (So.faults src.new)
         (Si.taken out.old) (Si.taken out.new) (Si.faults out.old) (Si.faults out.new) }
     ensures reading { ReadsUpTo (MAX_BYTES + 1) (So.left src.old) (So.left src.new) (So.reads src.old) (So.reads src.new) }
-    ensures failed { result ≡ Ending.StoreFailed → StoreFailed (S.history store.new) (S.faults store.old) (S.faults store.new) }
-    ensures damaged { result ≡ Ending.Damaged → S.history store.old ≡ None }
-    ensures extends { Extends (S.history store.old) (S.history store.new) }
-    ensures spares { Spares result store.old store.new }
+    ensures failed { result ≡ Ending.StoreFailed → StoreFailed (S.history port.new.store) (S.faults port.old.store) (S.faults port.new.store) }
+    ensures lawful { StaysLawful (S.history port.old.store) (S.history port.new.store) }
+    ensures spares { Spares result port.old.store port.new.store }
     ensures later { Si.faults out.old ≤ Si.faults out.new }
 {
     if is_run(words) {
-        return run(alloc, src, out, store);
+        return run(alloc, src, out, port, now);
     }
     Ending::NoCommand
 }
 
 /// Does what the words say, over a source, a sink and a store. The one command is `run`: it reads a feed and writes the
-/// replies to it, and keeps the accepted updates in the store. It starts from the empty collection, whatever the store
-/// holds. See docs/DEFINITIONS.md, "Plain runs" and "Statuses".
+/// replies to it, and keeps the accepted updates in the store, on shard 1. It starts from what the store holds there, as client 0
+/// that writes and client 1 that reads, and leaves as both. See docs/DEFINITIONS.md, "Plain runs" and "Statuses".
 pub fn persist_plain<So: Source, Si: Sink, S: Store, K: Clock>(
     alloc: Global,
     words: &Vec<String>,
@@ -90,10 +93,11 @@ pub fn persist_plain<So: Source, Si: Sink, S: Store, K: Clock>(
     clock: &mut K,
 ) -> Ended<S>
     ensures statuses { IsStatus result.status }
-    // 0: the text was read to its end and spells a feed. Where the store tells its history, the plain run of that feed is
-    // written, and nothing else.
+    // 0: the text was read to its end and spells a feed. Where the history is told, lawful and from a start that stands for a
+    // list, the plain run of that feed from the store's view is written, and nothing else; and the store that is given back
+    // stands for the updates that the plain run ends with.
     ensures complete { result.status ≡ 0 → IsRun (map string_bytes words.now.items)
-        × RunsPlainly (S.history store) (So.left src.old) (So.left src.new) (Si.taken out.old) (Si.taken out.new) }
+        × RunsPlainly (S.history store) (S.history result.store) (So.left src.old) (So.left src.new) (Si.taken out.old) (Si.taken out.new) }
     // 2: the words are no command.
     ensures no_command { result.status ≡ 2 → (IsRun (map string_bytes words.now.items) → ⊥)
         × Gains (Si.taken out.old) (Si.taken out.new) words_text }
@@ -108,20 +112,26 @@ pub fn persist_plain<So: Source, Si: Sink, S: Store, K: Clock>(
     ensures output { result.status ≡ 5 → Rose (Si.faults out.old) (Si.faults out.new) }
     // 6: a store call failed; where the history is told, it is the last call.
     ensures store_failed { result.status ≡ 6 → StoreFailed (S.history result.store) (S.faults store) (S.faults result.store) }
-    // 9: never over a store that tells its history.
-    ensures damaged { result.status ≡ 9 → S.history store ≡ None }
+    // 9: never where the history is told, lawful and from a start that stands for a list.
+    ensures damaged { result.status ≡ 9 → NoCollection (S.history store) (S.history result.store) }
+    // 10: over such a history a Scan of this call showed 256 members.
+    ensures members_full { result.status ≡ 10 → FoundFull (S.history store) (S.history result.store) }
+    // 11: over such a history a Scan of this call showed a last version with the number 2^64 - 1.
+    ensures spent { result.status ≡ 11 → FoundSpent (S.history store) (S.history result.store) }
     // At most one byte more than a feed may have is read, and each read but the last takes one.
     ensures reading { ReadsUpTo (MAX_BYTES + 1) (So.left src.old) (So.left src.new) (So.reads src.old) (So.reads src.new) }
     // The history, where it is told, has the same start, and a trail that begins with the trail handed in.
     ensures store { Extends (S.history store) (S.history result.store) }
+    // Where it was lawful, from a start that stands for a list, it still is.
+    ensures lawful { StaysLawful (S.history store) (S.history result.store) }
     // Where nothing was executed, the store is as it was.
     ensures untouched { (result.status ≡ 2) ⊎ ((result.status ≡ 3) ⊎ (result.status ≡ 4)) → result.store ≡ store }
 {
-    let _moment = clock.now();
-    let mut store = store;
-    let ending = perform(alloc, words, src, out, &mut store);
+    let now = clock.now();
+    let mut port = SolePort { store, client: 0 };
+    let ending = perform(alloc, words, src, out, &mut port, now);
     Ended {
         status: finish(alloc, ending, out),
-        store,
+        store: port.store,
     }
 }

@@ -3,7 +3,7 @@ ghost use Rattle.std.specs.Prelude.{◌≡◌};
 ghost use Rattle.persist_app.specs.declared.run_faults.RunFault.TheVariants.{Memory, Sink as Failed};
 ghost use Rattle.persist_app.specs.RunFaults.{fault_of};
 
-use crate::parts_faults::PartsFault;
+use crate::session_faults::SessionFault;
 use feed_text::SinkFault;
 use std::alloc::AllocError;
 use thiserror::Error;
@@ -20,9 +20,15 @@ pub enum RunFault {
     /// A store call failed.
     #[error("a store call failed")]
     Store,
-    /// A part in the store is damaged.
-    #[error("a part is damaged")]
+    /// The shard in the store is damaged.
+    #[error("the shard is damaged")]
     Damaged,
+    /// As many members stand in the shard as can.
+    #[error("the members are full")]
+    MembersFull,
+    /// The shard has its last version.
+    #[error("no version is left")]
+    Spent,
 }
 
 impl From<AllocError> for RunFault {
@@ -41,14 +47,16 @@ impl From<SinkFault> for RunFault {
     }
 }
 
-impl From<PartsFault> for RunFault {
+impl From<SessionFault> for RunFault {
     ghost from_gives = { λ fault e. e ≡ fault_of fault };
 
-    fn from(fault: PartsFault) -> Self {
+    fn from(fault: SessionFault) -> Self {
         match fault {
-            PartsFault::Memory => RunFault::Memory,
-            PartsFault::Store => RunFault::Store,
-            PartsFault::Damaged => RunFault::Damaged,
+            SessionFault::Memory => RunFault::Memory,
+            SessionFault::Store => RunFault::Store,
+            SessionFault::Damaged => RunFault::Damaged,
+            SessionFault::MembersFull => RunFault::MembersFull,
+            SessionFault::Spent => RunFault::Spent,
         }
     }
 }

@@ -1,65 +1,77 @@
-// The command `run`: a feed is read, executed over a collection in parts, and answered.
-ghost use Rattle.std.specs.Prelude.{◌≡◌, ◌≤◌, ◌+◌, None, OnOk, OnErr, IfSome};
-ghost use Rattle.causes.specs.Causes.{Rose};
+// The command `run`: a feed is read, executed by a session over the store, and answered.
+ghost use Rattle.std.specs.Prelude.{◌≡◌, ◌≤◌, ◌<◌, ◌+◌, Err, OnOk};
+ghost use Rattle.std.specs.List.{AllByRecursion};
+ghost use Rattle.state_core.specs.VersionReading.{most};
 ghost use Rattle.feed_text.specs.declared.limits.TheConstants.{MAX_BYTES};
-ghost use Rattle.feed_text.specs.Streams.{Gains, ReadsUpTo};
-ghost use Rattle.update_core.specs.Collections.{Collection};
-ghost use Rattle.persist_app.specs.PlainRuns.{empty_view, line_after, plain_run, reply_to, view_of};
-ghost use Rattle.persist_app.specs.StoreTurns.{Extends, StoreFailed, Turns};
-ghost use Rattle.persist_app.specs.PartRuns.{Keeps, Stands};
-ghost use Rattle.persist_app.specs.Endings.{AnswersText, EndsRun, Spares};
+ghost use Rattle.feed_text.specs.Grammar.{IsCommand, IsFeed};
+ghost use Rattle.causes.specs.Causes.{Rose};
+ghost use Rattle.feed_text.specs.Streams.{ReadsUpTo};
+ghost use Rattle.persist_app.specs.PlainRuns.{reply_to, view_after};
+ghost use Rattle.persist_app.specs.StoreTurns.{StoreFailed};
+ghost use Rattle.persist_app.specs.Goings.{Goes};
+ghost use Rattle.persist_app.specs.Answering.{AnswersLines, Executes, Ready, Replies, number_of};
+ghost use Rattle.persist_app.specs.Endings.{AnswersText, EndsRun, Spares, StaysLawful};
 
 use crate::endings::Ending;
-use crate::part_collections::PartCollection;
-use crate::parts_faults::PartsFault;
 use crate::run_faults::RunFault;
+use crate::session_faults::SessionFault;
+use crate::sessions::Session;
+use crate::sole_ports::SolePort;
 use feed_text::{
-    Feed, FeedLine, LineFault, MAX_BYTES, ReadFault, RunReply, Sink, Source, parse_feed,
+    Feed, FeedLine, FeedLines, LineFault, MAX_BYTES, ReadFault, RunReply, Sink, Source, parse_feed,
     print_reply, put_all, read_up_to,
 };
 use std::alloc::Global;
 use std::collections::VecDeque;
 use store_core::Store;
-use update_core::Frontier;
 
 // The reply to one command.
 fn answer<S: Store>(
     alloc: Global,
-    collection: &mut PartCollection,
+    session: &mut Session,
     line: FeedLine,
-    store: &mut S,
-) -> Result<RunReply, PartsFault>
-    ensures told { Turns (S.history store.old) (S.history store.new) (λ s t. (c : Collection) → Stands s collection.old c → Keeps (reply_to (view_of c) line) (line_after c line) t collection.new result) }
-    ensures failed { result ≡ Err PartsFault.Store → StoreFailed (S.history store.new) (S.faults store.old) (S.faults store.new) }
-    ensures later { S.faults store.old ≤ S.faults store.new }
+    port: &mut SolePort<S>,
+) -> Result<RunReply, SessionFault>
+    requires ready { Ready (S.history port.old.store) session.old }
+    requires token { session.old.writer.token < most }
+    requires command { IsCommand line }
+    ensures told { Goes (S.history port.old.store) (S.history port.new.store) (Replies (number_of session.old.reader) (λ view. reply_to view line) (λ view. view_after view line) result) }
+    ensures ready { OnOk result (Ready (S.history port.new.store) session.new) }
+    ensures member { OnOk result (session.new.reader.member ≡ session.old.reader.member) }
+    ensures token { OnOk result (session.new.writer.token ≤ session.old.writer.token + 1) }
+    ensures failed { result ≡ Err SessionFault.Store → StoreFailed (S.history port.new.store) (S.faults port.old.store) (S.faults port.new.store) }
+    ensures later { S.faults port.old.store ≤ S.faults port.new.store }
 {
     match line {
-        FeedLine::Append(append) => collection.append(alloc, store, append),
-        FeedLine::Snapshot { t } => collection.snapshot(alloc, store, t),
-        FeedLine::Listen { t } => collection.listen(alloc, store, Frontier::after(t)),
-        FeedLine::Since { to } => Ok(collection.advance(to)),
+        FeedLine::Append(append) => session.append(alloc, port, append),
+        FeedLine::Snapshot { t } => session.snapshot(alloc, port, t),
+        FeedLine::Listen { t } => session.listen(alloc, port, t),
+        FeedLine::Since { to } => session.advance(alloc, port, to),
     }
 }
 
 // The replies to a feed's commands in turn, each written once it stands.
-fn execute<Si: Sink, S: Store>(
+fn answer_lines<Si: Sink, S: Store>(
     alloc: Global,
-    feed: Feed,
+    lines: FeedLines,
     out: &mut Si,
-    store: &mut S,
+    session: &mut Session,
+    port: &mut SolePort<S>,
 ) -> Result<(), RunFault>
-    ensures ok { OnOk result (IfSome (S.history store.old) (λ h. Gains (Si.taken out.old) (Si.taken out.new) (plain_run empty_view feed.lines))) }
+    requires ready { Ready (S.history port.old.store) session.old }
+    requires token { session.old.writer.token ≡ 0 }
+    requires feed { IsFeed lines }
+    ensures told { Goes (S.history port.old.store) (S.history port.new.store) (AnswersLines (number_of session.old.reader) lines (Si.taken out.old) (Si.taken out.new) result) }
+    ensures ready { OnOk result (Ready (S.history port.new.store) session.new) }
     ensures cause { result ≡ Err RunFault.Sink → Rose (Si.faults out.old) (Si.faults out.new) }
-    ensures failed { result ≡ Err RunFault.Store → StoreFailed (S.history store.new) (S.faults store.old) (S.faults store.new) }
-    ensures damaged { result ≡ Err RunFault.Damaged → S.history store.old ≡ None }
-    ensures extends { Extends (S.history store.old) (S.history store.new) }
+    ensures failed { result ≡ Err RunFault.Store → StoreFailed (S.history port.new.store) (S.faults port.old.store) (S.faults port.new.store) }
     ensures later { Si.faults out.old ≤ Si.faults out.new }
+    ensures calls { S.faults port.old.store ≤ S.faults port.new.store }
 {
-    let mut collection = PartCollection::new(alloc);
-    let mut lines = VecDeque::from(feed.lines.into_items());
+    let mut lines = VecDeque::from(lines.into_items());
     let mut text = Vec::new(alloc);
     while let Some(line) = lines.pop_front() {
-        let reply = answer(alloc, &mut collection, line, store)?;
+        let reply = answer(alloc, session, line, port)?;
         text.clear();
         print_reply(&mut text, &reply)?;
         put_all(out, &text)?;
@@ -67,27 +79,49 @@ fn execute<Si: Sink, S: Store>(
     Ok(())
 }
 
+// A feed answered by a session that is opened for it and closed after it.
+fn execute<Si: Sink, S: Store>(
+    alloc: Global,
+    feed: Feed,
+    out: &mut Si,
+    port: &mut SolePort<S>,
+    now: u64,
+) -> Result<(), RunFault>
+    requires feed { IsFeed feed.lines }
+    ensures told { Goes (S.history port.old.store) (S.history port.new.store) (Executes feed.lines (Si.taken out.old) (Si.taken out.new) result) }
+    ensures cause { result ≡ Err RunFault.Sink → Rose (Si.faults out.old) (Si.faults out.new) }
+    ensures failed { result ≡ Err RunFault.Store → StoreFailed (S.history port.new.store) (S.faults port.old.store) (S.faults port.new.store) }
+    ensures later { Si.faults out.old ≤ Si.faults out.new }
+{
+    let mut session = Session::open(alloc, port, now)?;
+    answer_lines(alloc, feed.lines, out, &mut session, port)?;
+    session.close(alloc, port)?;
+    Ok(())
+}
+
 // Executes the feed that a text spells, where it spells one.
-#[tactic(auto, using(crate::proofs::TurnLaws::extends_itself))]
+#[tactic(auto, using(crate::proofs::RunLaws::rests_lawful))]
 fn answer_text<Si: Sink, S: Store>(
     alloc: Global,
     text: &[u8],
     out: &mut Si,
-    store: &mut S,
+    port: &mut SolePort<S>,
+    now: u64,
 ) -> Ending
-    ensures ends { AnswersText result (S.history store.old) text.now (Si.taken out.old) (Si.taken out.new) (Si.faults out.old) (Si.faults out.new) }
-    ensures failed { result ≡ Ending.StoreFailed → StoreFailed (S.history store.new) (S.faults store.old) (S.faults store.new) }
-    ensures damaged { result ≡ Ending.Damaged → S.history store.old ≡ None }
-    ensures extends { Extends (S.history store.old) (S.history store.new) }
-    ensures spares { Spares result store.old store.new }
+    ensures ends { AnswersText result (S.history port.old.store) (S.history port.new.store) text.now (Si.taken out.old) (Si.taken out.new) (Si.faults out.old) (Si.faults out.new) }
+    ensures failed { result ≡ Ending.StoreFailed → StoreFailed (S.history port.new.store) (S.faults port.old.store) (S.faults port.new.store) }
+    ensures lawful { StaysLawful (S.history port.old.store) (S.history port.new.store) }
+    ensures spares { Spares result port.old.store port.new.store }
     ensures later { Si.faults out.old ≤ Si.faults out.new }
 {
     match parse_feed(alloc, text) {
-        Ok(feed) => match execute(alloc, feed, out, store) {
+        Ok(feed) => match execute(alloc, feed, out, port, now) {
             Ok(()) => Ending::Complete,
             Err(RunFault::Sink) => Ending::OutputFailed,
             Err(RunFault::Store) => Ending::StoreFailed,
             Err(RunFault::Damaged) => Ending::Damaged,
+            Err(RunFault::MembersFull) => Ending::MembersFull,
+            Err(RunFault::Spent) => Ending::Spent,
             Err(RunFault::Memory) => Ending::Memory,
         },
         Err(LineFault::Line { number }) => Ending::BadLine { number },
@@ -96,24 +130,24 @@ fn answer_text<Si: Sink, S: Store>(
 }
 
 /// Reads a feed, executes it and writes the replies. The accepted updates lie in the store.
-#[tactic(auto, using(crate::proofs::TurnLaws::extends_itself))]
+#[tactic(auto, using(crate::proofs::RunLaws::rests_lawful))]
 pub fn run<So: Source, Si: Sink, S: Store>(
     alloc: Global,
     source: &mut So,
     out: &mut Si,
-    store: &mut S,
+    port: &mut SolePort<S>,
+    now: u64,
 ) -> Ending
-    ensures ends { EndsRun result (S.history store.old) (So.left source.old) (So.left source.new) (So.faults source.old) (So.faults source.new)
+    ensures ends { EndsRun result (S.history port.old.store) (S.history port.new.store) (So.left source.old) (So.left source.new) (So.faults source.old) (So.faults source.new)
         (Si.taken out.old) (Si.taken out.new) (Si.faults out.old) (Si.faults out.new) }
     ensures reading { ReadsUpTo (MAX_BYTES + 1) (So.left source.old) (So.left source.new) (So.reads source.old) (So.reads source.new) }
-    ensures failed { result ≡ Ending.StoreFailed → StoreFailed (S.history store.new) (S.faults store.old) (S.faults store.new) }
-    ensures damaged { result ≡ Ending.Damaged → S.history store.old ≡ None }
-    ensures extends { Extends (S.history store.old) (S.history store.new) }
-    ensures spares { Spares result store.old store.new }
+    ensures failed { result ≡ Ending.StoreFailed → StoreFailed (S.history port.new.store) (S.faults port.old.store) (S.faults port.new.store) }
+    ensures lawful { StaysLawful (S.history port.old.store) (S.history port.new.store) }
+    ensures spares { Spares result port.old.store port.new.store }
     ensures later { Si.faults out.old ≤ Si.faults out.new }
 {
     match read_up_to(alloc, source, MAX_BYTES + 1) {
-        Ok(text) => answer_text(alloc, &text, out, store),
+        Ok(text) => answer_text(alloc, &text, out, port, now),
         Err(ReadFault::Source) => Ending::InputFailed,
         Err(ReadFault::Memory) => Ending::Memory,
     }

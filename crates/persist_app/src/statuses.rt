@@ -17,6 +17,10 @@ pub enum Status {
     Store = 6,
     /// Memory was refused.
     Memory = 8,
-    /// A part in the store is damaged.
+    /// The shard in the store is damaged.
     Damaged = 9,
+    /// As many members stand in the shard as can.
+    MembersFull = 10,
+    /// The shard has its last version.
+    Spent = 11,
 }

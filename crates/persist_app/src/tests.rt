@@ -1,10 +1,19 @@
+ghost use Rattle.std.specs.Prelude.{IfOk};
+ghost use Rattle.std.specs.List.{AllByRecursion};
+ghost use Rattle.store_core.specs.Starting.{CanStart, NoneTwice, same_shard, shards_of};
+
 use super::*;
 use crate::deaf_stores::DeafStore;
+use crate::sessions::Session;
+use crate::sole_ports::SolePort;
 use causes::NumberList;
 use feed_text::{Feed, FeedLine, MemSink, MemSource, RunReply, parse_feed, print_reply};
 use std::alloc::{AllocError, Global};
 use std::test::Fail;
-use store_core::{Bytes, Call, Entry, FaultAt, FaultList, MemStore, PartKey, ShardId, Store};
+use store_core::{
+    BlobList, Bytes, BytesList, Call, Entry, FaultAt, FaultList, MemStore, ShardId, ShardList,
+    Store,
+};
 use update_core::Frontier;
 
 fn numbers(alloc: Global, items: &[u64]) -> Result<NumberList, AllocError> {
@@ -280,94 +289,141 @@ fn faults_of_the_outside_are_told(rt: HostRuntime) -> Result<(), Fail> {
     Ok(())
 }
 
-fn key(token: u64, index: u64) -> PartKey {
-    PartKey {
-        shard: ShardId(1),
-        member: 0,
-        token,
-        index,
-    }
+#[test]
+fn a_run_goes_on_from_the_store(rt: HostRuntime) -> Result<(), Fail> {
+    let alloc = rt.alloc();
+    let store = MemStore::new(alloc, FaultList::new(alloc));
+    let (first, _) = ended(
+        alloc,
+        &run(b"append 0 10\n3 1 apple\n4 1 pear\n.\nsince 4\n"),
+        store,
+    )?;
+    assert_eq!(rt; first.status, 0);
+    let (second, taken) = ended(
+        alloc,
+        &run(
+            b"append 0 10\n3 1 a\n.\nappend 10 20\n11 1 fig\n.\nsnapshot 3\nsnapshot 15\nsince 3\n",
+        ),
+        first.store,
+    )?;
+    assert_eq!(rt; second.status, 0);
+    assert_eq!(rt;
+        taken.as_slice(),
+        b"mismatch 10\nok\nearly 4\n1 apple\n1 fig\n1 pear\n.\nback 4\n".as_slice()
+    );
+    Ok(())
 }
 
-// Whether the call is a Set, or else a Get, of this key.
-fn is_call(entry: &Entry, set: bool, wanted: PartKey) -> bool {
-    match &entry.call {
-        Call::Set { key, .. } => set && *key == wanted,
-        Call::Get { key } => !set && *key == wanted,
-        _ => false,
+// A store on which a writer and a reader stand, and the reader's since is at this time.
+fn with_reader(alloc: Global, since: u64) -> Result<MemStore, Fail> {
+    let mut port = SolePort {
+        store: MemStore::new(alloc, FaultList::new(alloc)),
+        client: 0,
+    };
+    if let Ok(session) = Session::open(alloc, &mut port, 0) {
+        let mut session = session;
+        let _reply = session.advance(alloc, &mut port, since);
     }
-}
-
-fn are_calls(trail: &[Entry], wanted: &[(bool, u64, u64)]) -> bool {
-    trail.len() == wanted.len()
-        && trail.iter().zip(wanted).all(|(entry, (set, token, index))| {
-            entry.client == 0 && is_call(entry, *set, key(*token, *index))
-        })
+    Ok(port.store)
 }
 
 #[test]
-fn parts_lie_under_their_keys(rt: HostRuntime) -> Result<(), Fail> {
+fn the_least_since_of_the_readers_counts(rt: HostRuntime) -> Result<(), Fail> {
     let alloc = rt.alloc();
-    let mut long = b"append 0 5\n".to_vec(alloc)?;
+    let feed =
+        b"append 0 10\n1 1 a\n3 1 b\n.\nsince 5\nsnapshot 1\nsnapshot 3\nsince 4\n".as_slice();
+    let (ended, taken) = ended(alloc, &run(feed), with_reader(alloc, 2)?)?;
+    assert_eq!(rt; ended.status, 0);
+    assert_eq!(rt;
+        taken.as_slice(),
+        b"ok\nok\nearly 2\n1 a\n1 b\n.\nback 5\n".as_slice()
+    );
+    Ok(())
+}
+
+#[test]
+fn a_full_shard_lets_nobody_in(rt: HostRuntime) -> Result<(), Fail> {
+    let alloc = rt.alloc();
+    let mut port = SolePort {
+        store: MemStore::new(alloc, FaultList::new(alloc)),
+        client: 0,
+    };
+    for _ in 0..128 {
+        assert!(rt; Session::open(alloc, &mut port, 0).is_ok());
+    }
+    let (ended, taken) = ended(alloc, &run(b"snapshot 0\n"), port.store)?;
+    assert_eq!(rt; ended.status, 10);
+    assert_eq!(rt; taken.as_slice(), b"members full\n".as_slice());
+    Ok(())
+}
+
+// The bytes of the last version that a trail makes, or none.
+fn last_version(alloc: Global, trail: &[Entry]) -> Result<Bytes, AllocError> {
+    let mut found = Bytes::of(alloc, Vec::new(alloc))?;
+    for entry in trail {
+        if let Call::Cas { bytes, .. } = &entry.call {
+            found = bytes.copy()?;
+        }
+    }
+    Ok(found)
+}
+
+// A shard whose one version has the last number.
+fn last_shard(alloc: Global, bytes: Bytes) -> Result<ShardList, AllocError>
+    ensures shards { IfOk result (λ shards. NoneTwice same_shard (shards_of shards)) }
+    ensures versions { IfOk result (λ shards. AllByRecursion CanStart shards) }
+{
+    let mut versions = BytesList::new(alloc);
+    versions.push(bytes)?;
+    let mut shards = ShardList::new(alloc);
+    shards.push((ShardId(1), u64::MAX, versions))?;
+    Ok(shards)
+}
+
+#[test]
+fn after_the_last_version_nothing_is_done(rt: HostRuntime) -> Result<(), Fail> {
+    let alloc = rt.alloc();
+    let store = MemStore::new(alloc, FaultList::new(alloc));
+    let (first, _) = ended(alloc, &run(b""), store)?;
+    let shards = last_shard(alloc, last_version(alloc, first.store.trail())?)?;
+    let store = MemStore::starting(alloc, BlobList::new(alloc), shards, FaultList::new(alloc))?;
+    let (ended, taken) = ended(alloc, &run(b"snapshot 0\n"), store)?;
+    assert_eq!(rt; ended.status, 11);
+    assert_eq!(rt; taken.as_slice(), b"spent\n".as_slice());
+    Ok(())
+}
+
+// How many calls a run of this feed makes.
+fn calls_of(alloc: Global, feed: &[u8]) -> Result<usize, Fail> {
+    let store = MemStore::new(alloc, FaultList::new(alloc));
+    let (ended, _) = ended(alloc, &run(feed), store)?;
+    Ok(ended.store.trail().len())
+}
+
+#[test]
+fn calls_are_counted(rt: HostRuntime) -> Result<(), Fail> {
+    let alloc = rt.alloc();
+    let mut long = b"append 0 5\n.\nappend 5 9\n".to_vec(alloc)?;
     for number in 0..4097 {
-        let row = format!(in alloc; "1 1 d{number}\n")?;
+        let row = format!(in alloc; "6 1 d{number}\n")?;
         long.extend_from_slice(row.as_bytes())?;
     }
-    long.extend_from_slice(b".\nsnapshot 0\nsnapshot 1\n")?;
-    for (name, feed, wanted) in [
-        (
-            "rows past the first 4,096 are a part of their own",
-            long.as_slice(),
-            [
-                (true, 1, 0),
-                (true, 1, 1),
-                (false, 1, 0),
-                (false, 1, 1),
-                (false, 1, 0),
-                (false, 1, 1),
-            ]
-            .as_slice(),
-        ),
-        (
-            "only the appends up to the time are read",
-            b"append 0 5\n2 1 a\n.\nappend 5 5\n.\nappend 5 9\n5 1 b\n.\nsnapshot 4\nsnapshot 5\n".as_slice(),
-            [
-                (true, 1, 0),
-                (true, 2, 0),
-                (false, 1, 0),
-                (false, 1, 0),
-                (false, 2, 0),
-            ]
-            .as_slice(),
-        ),
-        (
-            "only the appends whose upper is past the frontier are read",
-            b"append 0 5\n2 1 a\n.\nappend 5 9\n5 1 b\n.\nlisten 3\nlisten 4\nlisten 8\nsince 9\nlisten 7\n".as_slice(),
-            [
-                (true, 1, 0),
-                (true, 2, 0),
-                (false, 1, 0),
-                (false, 2, 0),
-                (false, 2, 0),
-            ]
-            .as_slice(),
-        ),
-        (
-            "no rows are no part, and still a number",
-            b"append 0 5\n1 1 a\n1 -1 a\n.\nappend 5 9\n5 1 b\n.\nsnapshot 8\n".as_slice(),
-            [(true, 2, 0), (false, 2, 0)].as_slice(),
-        ),
-        (
-            "what isn't accepted is not set",
-            b"append 3 5\n3 1 a\n.\nappend 0 2\n2 1 a\n.\nsnapshot 0\n".as_slice(),
-            [].as_slice(),
-        ),
-    ] {
-        let store = MemStore::new(alloc, FaultList::new(alloc));
-        let (ended, _) = ended(alloc, &run(feed), store)?;
-        assert_eq!(rt; ended.status, 0, "{name}");
-        assert!(rt; are_calls(ended.store.trail(), wanted), "{name}");
-    }
+    long.extend_from_slice(b".\n")?;
+    let nothing = calls_of(alloc, b"")?;
+    let first = calls_of(alloc, b"append 0 5\n.\n")?;
+    let two_parts = calls_of(alloc, &long)?;
+    let read = calls_of(
+        alloc,
+        b"append 0 5\n.\nappend 5 9\n6 1 a\n.\nsnapshot 8\nsnapshot 4\nlisten 4\n",
+    )?;
+    let one_part = calls_of(alloc, b"append 0 5\n.\nappend 5 9\n6 1 a\n.\n")?;
+    // One Cas for each part and one for the append.
+    assert_eq!(rt; two_parts.saturating_sub(first), 3);
+    assert_eq!(rt; one_part.saturating_sub(first), 2);
+    // A Scan and a Get, a Scan alone, a Scan and a Get; the reader has then seen what it would have looked for when it leaves.
+    assert!(rt; nothing < first);
+    let reading = read.saturating_sub(one_part);
+    assert!(rt; reading == 5 || reading == 6);
     Ok(())
 }
 
@@ -375,22 +431,22 @@ fn parts_lie_under_their_keys(rt: HostRuntime) -> Result<(), Fail> {
 fn a_failed_store_call_ends_a_run(rt: HostRuntime) -> Result<(), Fail> {
     let alloc = rt.alloc();
     let feed = b"append 0 5\n2 1 a\n.\nsnapshot 4\n".as_slice();
-    for (number, status, written) in [
-        (0, 6, b"store failed\n".as_slice()),
-        (1, 6, b"ok\nstore failed\n".as_slice()),
-        (2, 0, b"ok\n1 a\n.\n".as_slice()),
-    ] {
+    let calls = calls_of(alloc, feed)? as u64;
+    for number in 0..calls.saturating_add(1) {
         for took in [true, false] {
             let mut faults = FaultList::new(alloc);
             faults.push(FaultAt { number, took })?;
             let store = MemStore::new(alloc, faults);
             let (ended, taken) = ended(alloc, &run(feed), store)?;
+            let status = if number < calls { 6 } else { 0 };
             assert_eq!(rt; ended.status, status, "{number} {took}");
-            assert_eq!(rt; taken.as_slice(), written, "{number} {took}");
             assert!(rt;
-                ended.store.trail().len() as u64 == 2.min(number + 1),
+                ended.store.trail().len() as u64 == calls.min(number.saturating_add(1)),
                 "{number} {took}"
             );
+            if number == 0 {
+                assert_eq!(rt; taken.as_slice(), b"store failed\n".as_slice(), "{took}");
+            }
         }
     }
     Ok(())
@@ -423,10 +479,56 @@ fn what_a_store_brings_is_told_or_damaged(rt: HostRuntime) -> Result<(), Fail> {
             Some(bytes) => Some(Bytes::of(alloc, bytes.to_vec(alloc)?)?),
             None => None,
         };
-        let (ended, taken) = ended(alloc, &run(feed), DeafStore { alloc, bytes })?;
+        let store = MemStore::new(alloc, FaultList::new(alloc));
+        let (ended, taken) = ended(alloc, &run(feed), DeafStore { store, bytes })?;
         assert_eq!(rt; ended.status, status, "{name}");
         assert_eq!(rt; taken.as_slice(), written, "{name}");
     }
+    Ok(())
+}
+
+// The next number of a linear congruential generator.
+fn drawn(state: u32) -> u32 {
+    state.wrapping_mul(1_664_525).wrapping_add(1_013_904_223)
+}
+
+// A feed of so many commands, drawn from a fixed start.
+fn drawn_feed(alloc: Global, count: u32) -> Result<Vec<u8>, Fail> {
+    let mut text = Vec::new(alloc);
+    let mut state = 7;
+    let mut upper = 0_u32;
+    for _ in 0..count {
+        state = drawn(state);
+        let time = (state >> 16) % 64;
+        let line = match (state >> 24) % 8 {
+            0 => format!(in alloc; "snapshot {time}\n")?,
+            1 => format!(in alloc; "listen {time}\n")?,
+            2 => format!(in alloc; "since {}\n", time / 4)?,
+            3 => format!(in alloc; "append {time} {}\n{time} 1 a\n.\n", time % 50)?,
+            _ => {
+                let lower = upper % 1_000_000;
+                upper = lower + 1 + time % 3;
+                let letter = time % 7;
+                format!(in alloc;
+                    "append {lower} {upper}\n{lower} {} d{letter}\n{lower} -1 e{letter}\n.\n",
+                    time % 5
+                )?
+            }
+        };
+        text.extend_from_slice(line.as_bytes())?;
+    }
+    Ok(text)
+}
+
+#[test]
+fn a_long_run_replies_as_the_plain_collection(rt: HostRuntime) -> Result<(), Fail> {
+    let alloc = rt.alloc();
+    let feed = drawn_feed(alloc, 300)?;
+    let (ended, taken) = answer(alloc, &run(&feed))?;
+    let plain = plain_answer(alloc, &feed)?;
+    assert_eq!(rt; ended, 0);
+    assert_eq!(rt; taken.as_slice(), plain.as_slice());
+    assert!(rt; taken.len() > 3000);
     Ok(())
 }
 

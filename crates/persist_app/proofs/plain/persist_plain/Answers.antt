@@ -7,11 +7,12 @@ pub returns-clause-line : goal.returns-clause-line
 returns-clause-line g c =
     λ status. let finished = c.finish.ensures.line status in
     let told = g.S.Store.history c.args.store in
+    let told_now = g.S.Store.history c.perform-ending.new.port.store in
     let left = g.So.Source.left in
     let faults = g.So.Source.faults in
     let taken = g.Si.Sink.taken in
     let puts = g.Si.Sink.faults in
     let src = c.perform-ending.new.src in
     let out = c.perform-ending.new.out in
-    let performed = subst (λ words. Performs words c.perform-ending.result told (left c.args.src.now) (left src) (faults c.args.src.now) (faults src) (taken c.args.out.now) (taken out) (puts c.args.out.now) (puts out)) (ap (map string_bytes) c.deref.ensures.value) c.perform-ending.ensures.ends in
-    line_refused (map string_bytes c.args.words.now.items) c.perform-ending.result told finished.0 (left c.args.src.now) (left src) (faults c.args.src.now) (faults src) (taken c.args.out.now) (taken out) (taken c.finish.new.out) (puts c.args.out.now) (puts out) performed finished.1 finished.2
+    let performed = subst (λ words. Performs words c.perform-ending.result told told_now (left c.args.src.now) (left src) (faults c.args.src.now) (faults src) (taken c.args.out.now) (taken out) (puts c.args.out.now) (puts out)) (ap (map string_bytes) c.deref.ensures.value) c.perform-ending.ensures.ends in
+    line_refused (map string_bytes c.args.words.now.items) c.perform-ending.result told told_now finished.0 (left c.args.src.now) (left src) (faults c.args.src.now) (faults src) (taken c.args.out.now) (taken out) (taken c.finish.new.out) (puts c.args.out.now) (puts out) performed finished.1 finished.2

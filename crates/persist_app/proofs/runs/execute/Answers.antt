@@ -1,64 +1,70 @@
-use Rattle.std.proofs.Common.{◌≡◌, ◌++◌, ap, subst, sym, ◌∙◌, arith}
-use Rattle.feed_text.specs.Replies.{reply_text}
-use Rattle.persist_app.specs.PartRuns.{Keeping}
-use Rattle.persist_app.proofs.RunLaws.{RunOver, run_over_starts, run_over_goes_on, run_over_extends}
+use Rattle.std.proofs.Common.{◌≡◌, ◌≤◌, Err, ap, subst, sym, ◌∙◌, arith}
+use Rattle.std.proofs.lemmas.Result.{err_from_is_err_and}
+use Rattle.causes.specs.Causes.{Rose}
+use Rattle.persist_app.specs.declared.run_faults.RunFault.{RunFault}
+use Rattle.persist_app.specs.declared.run_faults.RunFault.TheVariants as runs
+use Rattle.persist_app.specs.Answering.{Executes, number_of}
+use Rattle.persist_app.specs.Goings.{Goes, own_shard}
+use Rattle.persist_app.specs.PlainRuns.{View, plain_end, plain_run}
+use Rattle.persist_app.specs.RunFaults.{fault_of}
+use Rattle.persist_app.specs.Sessions.{StartsAt, ViewAt}
+use Rattle.feed_text.specs.Streams.{Gains}
+use Rattle.persist_app.proofs.RunLaws.{close_fails, err_same, lines_done, lines_fail, open_fails, run_done, store_fault}
 use Rattle.persist_app.proofs.runs.execute.Goals as goal
 
-pub loop-line-init : goal.loop-line-init
-loop-line-init g c =
-    let a = g.S.Store.history c.args.store.now in
+pub returns-in_err-session-clause-told : goal.returns-in_err-session-clause-told
+returns-in_err-session-clause-told g c =
+    let a = g.S.Store.history c.args.port.now.store in
+    let b = g.S.Store.history c.open.new.port.store in
     let taken = g.Si.Sink.taken c.args.out.now in
-    let all = c.from-lines.result.items in
-    record {
-      over = subst (λ (k : Keeping). RunOver a a taken taken all k all) (sym c.new-collection.ensures) (run_over_starts a taken all);
-      later = omega arith;
-      calls = omega arith;
-    }
+    let p = err_from_is_err_and c.from_residual.result c.from_residual.ensures.1 in
+    rw p.1 (subst (λ (e : RunFault). Goes a b (Executes c.args.feed.lines taken taken (Err e))) (sym p.2) (open_fails a b c.args.feed.lines taken taken c.in_err-session.field-0.0 c.in_err-session.ensures.told))
 
-pub returns-in_err-reply-clause-extends : goal.returns-in_err-reply-clause-extends
-returns-in_err-reply-clause-extends g c =
-    run_over_extends (g.S.Store.history c.args.store.now) (g.S.Store.history c.loop-line.store) (g.S.Store.history c.answer.new.store) (g.Si.Sink.taken c.args.out.now) (g.Si.Sink.taken c.loop-line.out) c.from-lines.result.items c.loop-line.lines.items c.loop-line.collection c.answer.new.collection c.in-Some.line c.answer.result c.loop-line.invariant.over c.answer.ensures.told
-
-pub returns-in_err-print_reply-clause-extends : goal.returns-in_err-print_reply-clause-extends
-returns-in_err-print_reply-clause-extends g c =
-    run_over_extends (g.S.Store.history c.args.store.now) (g.S.Store.history c.loop-line.store) (g.S.Store.history c.answer.new.store) (g.Si.Sink.taken c.args.out.now) (g.Si.Sink.taken c.loop-line.out) c.from-lines.result.items c.loop-line.lines.items c.loop-line.collection c.answer.new.collection c.in-Some.line c.answer.result c.loop-line.invariant.over c.answer.ensures.told
-
-pub returns-in_err-put_all-clause-extends : goal.returns-in_err-put_all-clause-extends
-returns-in_err-put_all-clause-extends g c =
-    run_over_extends (g.S.Store.history c.args.store.now) (g.S.Store.history c.loop-line.store) (g.S.Store.history c.answer.new.store) (g.Si.Sink.taken c.args.out.now) (g.Si.Sink.taken c.loop-line.out) c.from-lines.result.items c.loop-line.lines.items c.loop-line.collection c.answer.new.collection c.in-Some.line c.answer.result c.loop-line.invariant.over c.answer.ensures.told
-
-pub loop-line-preserved-in_ok-put_all : goal.loop-line-preserved-in_ok-put_all
-loop-line-preserved-in_ok-put_all g c =
-    let history = g.S.Store.history in
+pub returns-in_err-answer_lines-clause-told : goal.returns-in_err-answer_lines-clause-told
+returns-in_err-answer_lines-clause-told g c =
+    let a = g.S.Store.history c.args.port.now.store in
+    let b = g.S.Store.history c.open.new.port.store in
+    let d = g.S.Store.history c.answer_lines.new.port.store in
     let taken = g.Si.Sink.taken in
-    let reply = c.in_ok-reply.reply in
-    let text_is : c.deref.result.now ≡ reply_text reply = c.deref.ensures.value ∙ c.in_ok-print_reply.ensures.ok ∙ ap (λ t. t ++ reply_text reply) c.clear.ensures.items in
-    record {
-      over = run_over_goes_on (history c.args.store.now) (history c.loop-line.store) (history c.answer.new.store) (taken c.args.out.now) (taken c.loop-line.out) (taken c.put_all.new.sink) c.from-lines.result.items c.loop-line.lines.items c.pop_front.new.self.items c.loop-line.collection c.answer.new.collection c.in-Some.line reply c.deref.result.now c.in-Some.ensures.items c.loop-line.invariant.over c.in_ok-reply.ensures.told text_is c.in_ok-put_all.ensures.ok;
-      later = omega (arith, c.loop-line.invariant.later, c.put_all.ensures.later);
-      calls = omega (arith, c.loop-line.invariant.calls, c.answer.ensures.later);
-    }
+    let p = err_from_is_err_and c.from_residual-in_err-answer_lines.result c.from_residual-in_err-answer_lines.ensures.1 in
+    rw p.1 (subst (λ (e : RunFault). Goes a d (Executes c.args.feed.lines (taken c.args.out.now) (taken c.answer_lines.new.out) (Err e))) (sym p.2)
+    (lines_fail a b d c.in_ok-session.session c.args.feed.lines (taken c.args.out.now) (taken c.answer_lines.new.out) c.in_err-answer_lines.field-0.0 c.in_ok-session.ensures.told c.in_err-answer_lines.ensures.told))
 
-pub loop-line-preserved-in_ok-put_all-2 : goal.loop-line-preserved-in_ok-put_all-2
-loop-line-preserved-in_ok-put_all-2 g c =
-    let history = g.S.Store.history in
+pub returns-in_err-close-clause-told : goal.returns-in_err-close-clause-told
+returns-in_err-close-clause-told g c =
+    let a = g.S.Store.history c.args.port.now.store in
+    let b = g.S.Store.history c.open.new.port.store in
+    let d = g.S.Store.history c.answer_lines.new.port.store in
+    let e = g.S.Store.history c.close.new.port.store in
     let taken = g.Si.Sink.taken in
-    let reply = c.in_ok-reply.reply in
-    let text_is : c.deref.result.now ≡ reply_text reply = c.deref.ensures.value ∙ c.in_ok-print_reply.ensures.ok ∙ ap (λ t. t ++ reply_text reply) c.clear.ensures.items in
-    record {
-      over = run_over_goes_on (history c.args.store.now) (history c.loop-line.store) (history c.answer.new.store) (taken c.args.out.now) (taken c.loop-line.out) (taken c.put_all.new.sink) c.from-lines.result.items c.loop-line.lines.items c.pop_front.new.self.items c.loop-line.collection c.answer.new.collection c.in-Some.line reply c.deref.result.now c.in-Some.ensures.items c.loop-line.invariant.over c.in_ok-reply.ensures.told text_is c.in_ok-put_all.ensures.ok;
-      later = omega (arith, c.loop-line.invariant.later, c.put_all.ensures.later);
-      calls = omega (arith, c.loop-line.invariant.calls, c.answer.ensures.later);
-    }
+    let s = c.in_ok-session.session in
+    let all = c.args.feed.lines in
+    let now = taken c.answer_lines.new.out in
+    let done = lines_done a b d s all (taken c.args.out.now) now c.in_ok-session.ensures.told c.in_ok-answer_lines.ensures.told in
+    let p = err_from_is_err_and c.from_residual-in_err-close.result c.from_residual-in_err-close.ensures.1 in
+    rw p.1 (subst (λ (x : RunFault). Goes a e (Executes all (taken c.args.out.now) now (Err x))) (sym p.2)
+    (close_fails a d e (λ list start es fs. (view : View) → StartsAt own_shard list start es view → Gains (taken c.args.out.now) now (plain_run view all) × ViewAt own_shard list start fs (number_of s.reader) (plain_end view all))
+    all (taken c.args.out.now) now c.in_err-close.field-0.0 done c.in_err-close.ensures.told))
 
-pub loop-line-preserved : goal.loop-line-preserved
-loop-line-preserved g c =
-    let history = g.S.Store.history in
+pub returns-in_err-close-clause-failed : goal.returns-in_err-close-clause-failed
+returns-in_err-close-clause-failed g c =
+    λ is. let p = err_from_is_err_and c.from_residual-in_err-close.result c.from_residual-in_err-close.ensures.1 in
+    let same : fault_of c.in_err-close.field-0.0 ≡ runs.Store = sym p.2 ∙ err_same c.from_residual-in_err-close.result p.0 runs.Store p.1 is in
+    let failed = c.close.ensures.failed (c.in_err-close.was ∙ ap Err (store_fault c.in_err-close.field-0.0 same)) in
+    let opened : g.S.Store.faults c.args.port.now.store ≤ g.S.Store.faults c.open.new.port.store = c.open.ensures.later in
+    let lines : g.S.Store.faults c.open.new.port.store ≤ g.S.Store.faults c.answer_lines.new.port.store = c.answer_lines.ensures.calls in
+    let rose : Rose (g.S.Store.faults c.answer_lines.new.port.store) (g.S.Store.faults c.close.new.port.store) = failed.0 in
+    (omega (arith, rose, opened, lines), failed.1)
+
+pub returns-clause-told : goal.returns-clause-told
+returns-clause-told g c =
+    let a = g.S.Store.history c.args.port.now.store in
+    let b = g.S.Store.history c.open.new.port.store in
+    let d = g.S.Store.history c.answer_lines.new.port.store in
+    let e = g.S.Store.history c.close.new.port.store in
     let taken = g.Si.Sink.taken in
-    let reply = c.in_ok-reply.reply in
-    let text_is : c.deref.result.now ≡ reply_text reply = c.deref.ensures.value ∙ c.in_ok-print_reply.ensures.ok ∙ ap (λ t. t ++ reply_text reply) c.clear.ensures.items in
-    record {
-      over = run_over_goes_on (history c.args.store.now) (history c.loop-line.store) (history c.answer.new.store) (taken c.args.out.now) (taken c.loop-line.out) (taken c.put_all.new.sink) c.from-lines.result.items c.loop-line.lines.items c.pop_front.new.self.items c.loop-line.collection c.answer.new.collection c.in-Some.line reply c.deref.result.now c.in-Some.ensures.items c.loop-line.invariant.over c.in_ok-reply.ensures.told text_is c.in_ok-put_all.ensures.ok;
-      later = omega (arith, c.loop-line.invariant.later, c.put_all.ensures.later);
-      calls = omega (arith, c.loop-line.invariant.calls, c.answer.ensures.later);
-    }
+    let s = c.in_ok-session.session in
+    let all = c.args.feed.lines in
+    let now = taken c.answer_lines.new.out in
+    let done = lines_done a b d s all (taken c.args.out.now) now c.in_ok-session.ensures.told c.in_ok-answer_lines.ensures.told in
+    run_done a d e (number_of s.reader) all (taken c.args.out.now) now done c.in_ok-close.ensures.told

@@ -8,4 +8,4 @@ returns-in-Ok-clause-ends g c =
     let left = g.So.Source.left c.args.source.now in
     let now = g.So.Source.left c.read_up_to.new.source in
     let took = subst (λ (t : List ℕ). TakesAll 16777217 left now t) (sym c.deref.ensures.value) c.in-Ok.ensures.text in
-    run_from_text c.answer_text.result (g.S.Store.history c.args.store.now) left now c.deref.result.now _ _ _ _ _ _ took c.answer_text.ensures.ends
+    run_from_text c.answer_text.result (g.S.Store.history c.args.port.now.store) (g.S.Store.history c.answer_text.new.port.store) left now c.deref.result.now _ _ _ _ _ _ took c.answer_text.ensures.ends

@@ -1,0 +1,13 @@
+//! Clients at one store: what drives several of them by hand, over a store that tells nothing of its history, run by tests.
+#![tactic(auto)]
+
+mod drives;
+mod untold_stores;
+
+pub use drives::{read_on, write_on};
+pub use untold_stores::UntoldStore;
+
+#[cfg(test)]
+mod scenes;
+#[cfg(test)]
+mod tests;

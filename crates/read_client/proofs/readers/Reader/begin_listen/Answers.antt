@@ -1,0 +1,8 @@
+use Rattle.std.proofs.Common.{refl, Some}
+use Rattle.history_core.specs.declared.asked.Asked.TheVariants as asks
+use Rattle.state_core.specs.declared.transitions.Transition.TheVariants as steps
+use Rattle.read_client.proofs.Begun.{read_follows}
+use Rattle.read_client.proofs.readers.Reader.begin_listen.Goals as goal
+
+pub returns-clause-follows : goal.returns-clause-follows
+returns-clause-follows c = read_follows c.args.self.now (asks.Listen c.args.as_of) (Some c.after.result) c.begin_read.new.self c.begin_read.ensures

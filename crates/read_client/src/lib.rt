@@ -1,0 +1,15 @@
+//! A reader of a shard: a client that joins, reads the collection at a time or step by step, and leaves, polled over any port.
+#![tactic(auto)]
+
+mod questions;
+mod readers;
+mod stages;
+
+pub use history_core::{Asked, ReadAnswer};
+pub use load_core::{BeginFault, Damage, Poll};
+pub use readers::Reader;
+
+#[cfg(test)]
+mod tests;
+#[cfg(test)]
+mod untold_stores;
