@@ -1,21 +1,25 @@
 -- The calls of a command over a store that nobody else calls. Entries go newest first.
-use Rattle.std.proofs.Common.{◌≡◌, ℕ, ◌+◌, ◌⊎◌, inl, inr, Option, List, [], ◌∷◌, ◌++◌, length, refl, sym, ap, subst, ◌∙◌, append_assoc, arith}
+use Rattle.std.proofs.Common.{◌≡◌, ℕ, suc, ◌+◌, ◌⊎◌, inl, inr, Option, List, [], ◌∷◌, ◌++◌, length, refl, sym, ap, subst, ◌∙◌, append_assoc, arith}
 use Rattle.std.specs.List.{AllByRecursion}
 use Rattle.std.proofs.lemmas.Bool.{eq-eqb}
 use Rattle.update_core.specs.declared.updates.Update.{Update}
 use Rattle.store_core.specs.declared.calls.Call.{Call}
+use Rattle.store_core.specs.declared.versions.Version.{Version}
 use Rattle.store_core.specs.declared.replies.Reply.{Reply}
+use Rattle.store_core.specs.declared.replies.Reply.TheVariants as replies
+use Rattle.store_core.specs.declared.outcomes.Outcome.{Outcome}
+use Rattle.store_core.specs.declared.outcomes.Outcome.TheVariants.{Took, FailedTook, FailedLost}
 use Rattle.store_core.specs.declared.entries.Entry.{Entry}
 use Rattle.store_core.specs.Stores.{Stored}
-use Rattle.store_core.specs.Histories.{History, Adds, reply}
+use Rattle.store_core.specs.Histories.{History, Adds, reply, reply_by}
 use Rattle.store_core.specs.Newest.{mine_back, replay_back}
 use Rattle.state_core.specs.States.{ShardState}
 use Rattle.history_core.specs.Discipline.{Allows, LawfulBack}
 use Rattle.history_core.specs.Laws.{LastIs}
 use Rattle.history_core.specs.Legal.{AtLast}
-use Rattle.history_core.specs.Placing.{placed, places, AtLastScan}
+use Rattle.history_core.specs.Placing.{placed, places, AtLastScan, IsAnsweredScan}
 use Rattle.history_core.specs.Stands.{StandsFor}
-use Rattle.load_core.specs.Effects.{CommitsFirst, CommitsNone}
+use Rattle.load_core.specs.Effects.{CommitsFirst, CommitsNone, IsShown}
 use Rattle.load_core.specs.Fronts.{Backwards, WhereLawful}
 use Rattle.persist_app.specs.Drives.{Going, Scanned}
 use Rattle.persist_app.specs.Goings.{Goes, own_shard}
@@ -31,6 +35,10 @@ pub record OneCall (client : ℕ) (E : Call → Reply → Type 0) (start : Store
   pub own : entry.client ≡ client
   pub split : now ≡ entry ∷ es
   pub effect : E entry.call (reply (replay_back start es) entry)
+
+-- of two things that hold of it the first
+pub one_first : (client : ℕ) (E F : Call → Reply → Type 0) (start : Stored) (es now : List Entry) → OneCall client (λ c r. E c r × F c r) start es now → OneCall client E start es now
+one_first client E F start es now k = record { entry = k.entry; own = k.own; split = k.split; effect = k.effect.0 }
 
 pub called : (client : ℕ) (a b : Option History) (call : Call) (r : Reply) (E : Call → Reply → Type 0) → Adds a b client call r →
     WhereLawful own_shard a (Backwards (λ start es list. Allows (mine_back start es client) call)) → E call r →
@@ -85,32 +93,38 @@ going_on client list start es mid now calls b g c =
 
 -- ---- the last Scan of a command
 
-scanned_among : (client : ℕ) (start : Stored) (P : ℕ → ShardState → Type 0) (es more : List Entry) → AllByRecursion (λ e. e.client ≡ client) more →
-    AtLastScan own_shard (AtLast start own_shard P) (places client (length more) (more ++ es)) → Scanned P start es (more ++ es)
-scanned_among client start P es [] own h = absurd h
-scanned_among client start P es (e ∷ more) own h = elim (rw (eq-eqb e.client client own.0) at h) [
-  | inl k ↦ record { place = placed e (more ++ es); later = []; more = more; split = refl; since = refl; answered = k.0; last = k.1 }
-  | inr k ↦
-      let r = scanned_among client start P es more own.1 k.1 in
-      record { place = r.place; later = e ∷ r.later; more = r.more; split = ap (λ (fs : List Entry). e ∷ fs) r.split; since = r.since; answered = r.answered; last = r.last }
-]
+shown_took : (s : Stored) (call : Call) (o : Outcome) (vs : List Version) → reply_by s call o ≡ replies.Versions vs → o ≡ Took
+shown_took s call Took vs is = refl
+shown_took s call FailedTook vs is = absurd (let bad : replies.Failed ≡ replies.Versions vs = is in cc)
+shown_took s call FailedLost vs is = absurd (let bad : replies.Failed ≡ replies.Versions vs = is in cc)
 
--- it is among the entries that have come since the command began
-pub scanned_since : (client : ℕ) (list : List Update) (start : Stored) (P : ℕ → ShardState → Type 0) (es before : List Entry) (e : Entry) (calls : ℕ) →
-    Going client list start es before calls → e.client ≡ client → AtLastScan own_shard (AtLast start own_shard P) (places client (calls + 1) (e ∷ before)) →
-    Scanned P start es (e ∷ before)
-scanned_since client list start P es before e calls g own h =
-    let many : calls + 1 ≡ length (e ∷ g.more) = (let is : length g.more ≡ calls = g.as_many in omega arith) in
-    let there = subst (λ (n : ℕ). AtLastScan own_shard (AtLast start own_shard P) (places client n (e ∷ before))) many h in
-    let split : e ∷ before ≡ (e ∷ g.more) ++ es = ap (λ (fs : List Entry). e ∷ fs) g.split in
-    subst (λ (fs : List Entry). Scanned P start es fs) (sym split)
-    (scanned_among client start P es (e ∷ g.more) (own, g.of_client) (subst (λ (fs : List Entry). AtLastScan own_shard (AtLast start own_shard P) (places client (length (e ∷ g.more)) fs)) split there))
+-- a Scan whose reply is its versions was answered
+pub shown_scan : (s : Stored) (e : Entry) (es : List Entry) → IsShown own_shard e.call (reply s e) → IsAnsweredScan own_shard (placed e es)
+shown_scan s e es (scan, (vs, is)) = (scan, shown_took s e.call e.outcome vs is)
+
+-- where it is the last entry, that one shows what holds there
+pub scanned_last : (client : ℕ) (list : List Update) (start : Stored) (P : ℕ → ShardState → Type 0) (es before : List Entry) (e : Entry) (calls : ℕ) →
+    Going client list start es before calls → e.client ≡ client → IsAnsweredScan own_shard (placed e before) →
+    AtLastScan own_shard (AtLast start own_shard P) (places client (calls + 1) (e ∷ before)) → Scanned P start es (e ∷ before)
+scanned_last client list start P es before e calls g own answered h =
+    let one : calls + 1 ≡ suc calls = omega arith in
+    let there = subst (λ (n : ℕ). AtLastScan own_shard (AtLast start own_shard P) (places client n (e ∷ before))) one h in
+    record {
+      place = placed e before;
+      more = g.more;
+      split = refl;
+      since = g.split;
+      answered = answered;
+      last = elim (rw (eq-eqb e.client client own) at there) [
+        | inl k ↦ k.1
+        | inr k ↦ absurd (k.0 answered)
+      ];
+    }
 
 -- a Scan since later entries is one since earlier ones
 pub scanned_before : (P : ℕ → ShardState → Type 0) (list : List Update) (start : Stored) (es mid now : List Entry) → Between list start es mid → Scanned P start mid now → Scanned P start es now
 scanned_before P list start es mid now b s = record {
   place = s.place;
-  later = s.later;
   more = s.more ++ b.more;
   split = s.split;
   since = s.since ∙ ap (λ (fs : List Entry). s.more ++ fs) b.split ∙ sym (append_assoc s.more b.more es);

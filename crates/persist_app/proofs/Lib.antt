@@ -5,6 +5,7 @@ pub mod Views
 pub mod Refused
 pub mod GoingLaws
 pub mod DriveLaws
+pub mod Unmixed
 pub mod WriteDrives
 pub mod ReadDrives
 pub mod SessionLaws

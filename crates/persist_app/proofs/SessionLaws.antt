@@ -32,7 +32,7 @@ use Rattle.history_core.specs.Legal.{AcceptedAt, AnswersAppend, Command, LegalRe
 use Rattle.history_core.specs.Stands.{StandsFor, accepted}
 use Rattle.history_core.proofs.Gaining.{mine_others}
 use Rattle.history_core.proofs.Prefixes.{prefix_lawful}
-use Rattle.load_core.specs.Effects.{CommitsNone, CommitsStep}
+use Rattle.load_core.specs.Effects.{CommitsNone, CommitsStep, IsShown}
 use Rattle.load_core.specs.Following.{FollowsTrying}
 use Rattle.load_core.specs.Fronts.{Backwards, WhereLawful}
 use Rattle.write_client.specs.declared.writers.Writer.{Writer}
@@ -54,7 +54,7 @@ use Rattle.persist_app.specs.Drives.{ScannedFull, EndedReading, Failed, Going, R
 use Rattle.persist_app.specs.Goings.{Goes, GrowsBy, own_shard}
 use Rattle.persist_app.specs.PlainRuns.{View, append_text, listen_text, since_reply, snapshot_text, view_since, view_with}
 use Rattle.persist_app.specs.Sessions.{QuietSince, StartsAt, ViewAt}
-use Rattle.persist_app.proofs.DriveLaws.{scanned_since}
+use Rattle.persist_app.proofs.DriveLaws.{scanned_last, shown_scan}
 use Rattle.persist_app.proofs.GoingLaws.{Between, going_so, others_back}
 use Rattle.persist_app.proofs.Quietly.{quiet_none, quiet_view}
 use Rattle.persist_app.proofs.Refused.{scan_absent, scan_append, scan_listen, scan_since, scan_snapshot}
@@ -125,7 +125,6 @@ all_quiet client list start es before e calls reader view g own none v = quiet_n
 scanned_so : (P Q : ℕ → ShardState → Type 0) (start : Stored) (es now : List Entry) → ((n : ℕ) (s : ShardState) → P n s → Q n s) → Scanned P start es now → Scanned Q start es now
 scanned_so P Q start es now go s = record {
   place = s.place;
-  later = s.later;
   more = s.more;
   split = s.split;
   since = s.since;
@@ -134,11 +133,12 @@ scanned_so P Q start es now go s = record {
 }
 
 full : (client : ℕ) (list : List Update) (start : Stored) (es now before : List Entry) (e : Entry) (calls version : ℕ) → Going client list start es before calls → e.client ≡ client → now ≡ e ∷ before →
-    Full start own_shard version (places client (calls + 1) now) → ScannedFull start es now
-full client list start es now before e calls version g own split h =
+    IsShown own_shard e.call (reply (replay_back start before) e) → Full start own_shard version (places client (calls + 1) now) → ScannedFull start es now
+full client list start es now before e calls version g own split shown h =
     subst (λ (fs : List Entry). ScannedFull start es fs) (sym split)
     (scanned_so (λ n s. (n ≡ version) × (length s.members ≡ 256)) (λ n s. length s.members ≡ 256) start es (e ∷ before) (λ n s p. p.1)
-    (scanned_since client list start (λ n s. (n ≡ version) × (length s.members ≡ 256)) es before e calls g own (subst (λ (fs : List Entry). Full start own_shard version (places client (calls + 1) fs)) split h)))
+    (scanned_last client list start (λ n s. (n ≡ version) × (length s.members ≡ 256)) es before e calls g own (shown_scan (replay_back start before) e before shown)
+    (subst (λ (fs : List Entry). Full start own_shard version (places client (calls + 1) fs)) split h)))
 
 -- ---- opening
 
@@ -149,7 +149,7 @@ opens_writer a d answer went = going_so a d (Wrote (writers.opened own_shard) (O
     go (writes.Opened member version) list start es now b x =
         λ view at. subst (λ (fs : List Entry). StartsAt own_shard list start fs view) (sym x.split)
         (writer_joins own_shard list start b.stands x.entry x.before (lawful_last list start es now x.before x.entry b x.split) view (x.going.starts view at) x.effect.0)
-    go (writes.MembersFull version) list start es now b x = full 0 list start es now x.before x.entry x.calls version x.going x.own x.split x.legal
+    go (writes.MembersFull version) list start es now b x = full 0 list start es now x.before x.entry x.calls version x.going x.own x.split (x.shown tt) x.legal
     go writes.Ok list start es now b x = x.legal
     go (writes.Mismatch current) list start es now b x = x.legal
     go (writes.Heavy weight) list start es now b x = x.legal
@@ -170,7 +170,7 @@ opens_reader a d moment lease r answer over went =
     go (reads.Opened member version since) is list start es now b x =
         λ view at. subst (λ (m : Option ℕ). ViewAt own_shard list start now (unwrap_or m 0) view) (sym is) (subst (λ (fs : List Entry). ViewAt own_shard list start fs member view) (sym x.split)
         (reader_joins own_shard list start b.stands x.entry x.before (lawful_last list start es now x.before x.entry b x.split) view moment lease member (x.going.starts view at) x.effect.0 x.effect.1))
-    go (reads.MembersFull version) is list start es now b x = full 1 list start es now x.before x.entry x.calls version x.going x.own x.split x.legal
+    go (reads.MembersFull version) is list start es now b x = full 1 list start es now x.before x.entry x.calls version x.going x.own x.split (x.shown tt) x.legal
     go (reads.Rows rows) is list start es now b x = x.legal
     go (reads.Early since) is list start es now b x = x.legal
     go (reads.Late upper) is list start es now b x = x.legal

@@ -9,12 +9,15 @@ use Rattle.store_core.specs.Newest.{replay_back}
 use Rattle.state_core.specs.States.{ShardState}
 use Rattle.state_core.specs.VersionReading.{most}
 use Rattle.history_core.specs.declared.write_answers.WriteAnswer.{WriteAnswer}
+use Rattle.history_core.specs.declared.write_answers.WriteAnswer.TheVariants as writes
 use Rattle.history_core.specs.declared.read_answers.ReadAnswer.{ReadAnswer}
+use Rattle.history_core.specs.declared.read_answers.ReadAnswer.TheVariants as reads
 use Rattle.history_core.specs.Laws.{LastIs}
 use Rattle.history_core.specs.Legal.{AtLast, LegalReadBack, LegalWriteBack}
 use Rattle.history_core.specs.Placing.{Placed, IsAnsweredScan}
 use Rattle.history_core.specs.Stands.{accepted}
 use Rattle.load_core.specs.declared.polls.Poll.TheVariants as polls
+use Rattle.load_core.specs.Effects.{IsShown}
 use Rattle.write_client.specs.declared.writers.Writer.{Writer}
 use Rattle.write_client.specs.Polling as writing
 use Rattle.write_client.specs.Writing as writers
@@ -38,12 +41,11 @@ pub record Going (client : ℕ) (list : List Update) (start : Stored) (es now : 
   pub accepts : accepted own_shard list start now ≡ accepted own_shard list start es
   pub quiet : (n : ℕ) (s : ShardState) → LastIs (replay_back start es) own_shard n s → QuietSince own_shard client start es now calls
 
--- among the entries that have come is an answered Scan at which the last version has P of its number and state
+-- The last entry is an answered Scan that has come since, at which the last version has P of its number and state.
 pub record Scanned (P : ℕ → ShardState → Type 0) (start : Stored) (es now : List Entry) : Type 0 where
   pub place : Placed
-  pub later : List Entry
   pub more : List Entry
-  pub split : now ≡ later ++ (place.entry ∷ place.before)
+  pub split : now ≡ place.entry ∷ place.before
   pub since : place.before ≡ more ++ es
   pub answered : IsAnsweredScan own_shard place
   pub last : AtLast start own_shard P place
@@ -56,7 +58,16 @@ ScannedSpent start es now = Scanned (λ n s. n ≡ most) start es now
 abbrev pub ScannedFull : Stored → List Entry → List Entry → Type 0
 ScannedFull start es now = Scanned (λ n s. length s.members ≡ 256) start es now
 
--- a command of a writer has ended with an answer, by its last call
+-- nobody is let in
+abbrev pub KeepsOutWriter : WriteAnswer → Type 0
+KeepsOutWriter (writes.MembersFull version) = ⊤
+KeepsOutWriter _ = ⊥
+
+abbrev pub KeepsOutReader : ReadAnswer → Type 0
+KeepsOutReader (reads.MembersFull version) = ⊤
+KeepsOutReader _ = ⊥
+
+-- a command of a writer has ended with an answer, by its last call, which is a Scan where nobody was let in
 pub record WroteAnswer (old : Writer) (answer : WriteAnswer) (list : List Update) (start : Stored) (es now : List Entry) : Type 0 where
   pub calls : ℕ
   pub before : List Entry
@@ -65,6 +76,7 @@ pub record WroteAnswer (old : Writer) (answer : WriteAnswer) (list : List Update
   pub own : entry.client ≡ 0
   pub split : now ≡ entry ∷ before
   pub effect : writing.Effect own_shard old.trying.step entry.call (reply (replay_back start before) entry) (polls.Done answer)
+  pub shown : KeepsOutWriter answer → IsShown own_shard entry.call (reply (replay_back start before) entry)
   pub legal : IfSome old.asked (λ asked. LegalWriteBack list start now (writing.command_of 0 old asked (calls + 1)) answer)
 
 -- the same of a reader
@@ -76,6 +88,7 @@ pub record ReadAnswered (old : Reader) (answer : ReadAnswer) (list : List Update
   pub own : entry.client ≡ 1
   pub split : now ≡ entry ∷ before
   pub effect : reading.Effect own_shard old.trying.step entry.call (reply (replay_back start before) entry) (polls.Done answer)
+  pub shown : KeepsOutReader answer → IsShown own_shard entry.call (reply (replay_back start before) entry)
   pub legal : IfSome old.asked (λ asked. LegalReadBack list start now (reading.command_of 1 old asked (calls + 1)) answer)
 
 -- what has become of a command by a fault

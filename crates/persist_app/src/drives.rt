@@ -1,9 +1,12 @@
 // A command polled to its end.
 ghost use Rattle.std.specs.Prelude.{◌≡◌, ◌≤◌, ◌<◌, Err, IfOk, OnOk};
 ghost use Rattle.store_core.specs.Histories.{History};
+ghost use Rattle.load_core.specs.Fronts.{Backwards, WhereLawful};
 ghost use Rattle.write_client.specs.Following as writes;
+ghost use Rattle.write_client.specs.Polling as writing;
 ghost use Rattle.write_client.specs.Writing as writers;
 ghost use Rattle.read_client.specs.Following as reads;
+ghost use Rattle.read_client.specs.Polling as reading;
 ghost use Rattle.read_client.specs.Reading as readers;
 ghost use Rattle.persist_app.specs.StoreTurns.{StoreFailed};
 ghost use Rattle.persist_app.specs.Goings.{Goes, GrowsBy, own_shard};
@@ -18,8 +21,8 @@ use std::alloc::Global;
 use store_core::Store;
 use write_client::Writer;
 
-// So many polls of one command are made at most.
-const MAX_POLLS: u64 = 1 << 62;
+// So many polls of one command are made at most. Over a store that is a collection none needs so many.
+const MAX_POLLS: u64 = 1 << 63;
 
 /// Polls the open command of the writer, which is client 0, to its end.
 pub(crate) fn drive_writer<S: Store>(
@@ -33,6 +36,7 @@ pub(crate) fn drive_writer<S: Store>(
     requires begun { writer.old.trying.calls ≡ 0 }
     requires client { port.old.client ≡ 0 }
     requires follows { writes.FollowsWhere 0 (S.history port.old.store) writer.old }
+    requires cost { WhereLawful (writers.shard_of writer.old) (S.history port.old.store) (Backwards (writing.CostAt 3 0 writer.old)) }
     ensures told { Goes (S.history port.old.store) (S.history port.new.store) (Wrote writer.old result) }
     ensures by { OnOk result (GrowsBy 0 (S.history port.old.store) (S.history port.new.store)) }
     ensures ended { IfOk result (EndedWriting writer.old writer.new) }
@@ -52,7 +56,7 @@ pub(crate) fn drive_writer<S: Store>(
             Poll::Done(answer) => return Ok(answer),
         }
     }
-    Err(SessionFault::Memory)
+    Err(SessionFault::Damaged)
 }
 
 /// Polls the open command of the reader, which is client 1, to its end.
@@ -67,6 +71,7 @@ pub(crate) fn drive_reader<S: Store>(
     requires begun { reader.old.trying.calls ≡ 0 }
     requires client { port.old.client ≡ 1 }
     requires follows { reads.FollowsWhere 1 (S.history port.old.store) reader.old }
+    requires cost { WhereLawful (readers.shard_of reader.old) (S.history port.old.store) (Backwards (reading.CostAt 3 1 reader.old)) }
     ensures told { Goes (S.history port.old.store) (S.history port.new.store) (Read reader.old result) }
     ensures by { OnOk result (GrowsBy 1 (S.history port.old.store) (S.history port.new.store)) }
     ensures ended { IfOk result (EndedReading reader.old reader.new) }
@@ -86,5 +91,5 @@ pub(crate) fn drive_reader<S: Store>(
             Poll::Done(answer) => return Ok(answer),
         }
     }
-    Err(SessionFault::Memory)
+    Err(SessionFault::Damaged)
 }

@@ -1,5 +1,5 @@
 -- A reader that has begun a command follows, and is within the bound on its calls.
-use Rattle.std.proofs.Common.{◌≡◌, ℕ, ◌+◌, ◌≤◌, Bool, true, false, Option, Some, None, Result, Ok, Err, List, [], ◌∷◌, inl, inr, refl, sym, ap, subst, ◌∙◌, arith}
+use Rattle.std.proofs.Common.{◌≡◌, ℕ, ◌≤◌, Option, Some, None, List, [], ◌∷◌, inl, inr, refl, sym, subst, arith}
 use Rattle.std.specs.Prelude.{⊤, reverse, IfSome}
 use Rattle.update_core.specs.declared.updates.Update.{Update}
 use Rattle.store_core.specs.declared.shards.ShardId.{ShardId}
@@ -12,32 +12,28 @@ use Rattle.store_core.specs.Stores.{Stored}
 use Rattle.store_core.specs.Histories.{History}
 use Rattle.store_core.specs.Ports.{Answered}
 use Rattle.store_core.specs.Newest.{mine_back}
-use Rattle.state_core.specs.Lists.{Among}
 use Rattle.state_core.specs.declared.kinds.Kind.{Kind}
 use Rattle.state_core.specs.declared.kinds.Kind.TheVariants.{Reader as AsReader}
 use Rattle.state_core.specs.declared.transitions.Transition.{Transition}
 use Rattle.state_core.specs.declared.transitions.Transition.TheVariants as steps
 use Rattle.state_core.specs.States.{ShardState}
 use Rattle.state_core.specs.Steps.{acts_for}
-use Rattle.state_core.specs.VersionReading.{most, version_in}
+use Rattle.state_core.specs.VersionReading.{version_in}
 use Rattle.history_core.specs.declared.asked.Asked.{Asked}
 use Rattle.history_core.specs.declared.asked.Asked.TheVariants as asks
 use Rattle.history_core.specs.Discipline.{IsJoin, JoinsAs, Owns, OwnsSome}
 use Rattle.history_core.specs.Members.{IsKindJoin, JoinedAs, KindJoins}
-use Rattle.load_core.specs.Costing.{CostKept}
-use Rattle.load_core.specs.Following.{FollowsTrying}
 use Rattle.load_core.specs.Fronts.{Backwards, WhereLawful}
-use Rattle.load_core.specs.Loading.{Loading}
 use Rattle.load_core.specs.Trying as trying
 use Rattle.load_core.proofs.Remaining.{begun_cost}
 use Rattle.read_client.specs.declared.questions.Question.{Question}
 use Rattle.read_client.specs.declared.readers.Reader.{Reader}
 use Rattle.read_client.specs.declared.stages.Stage.TheVariants as stages
-use Rattle.read_client.specs.Asking.{question_of, step_question}
+use Rattle.read_client.specs.Asking.{question_of}
 use Rattle.read_client.specs.Beginning.{BeginsRead, Changing}
-use Rattle.read_client.specs.Following.{Follows, FollowsStage, FollowsWhere}
-use Rattle.read_client.specs.Polling.{CostAt, CostBy, ReadCost}
-use Rattle.read_client.specs.Reading.{opened, question, shard_of}
+use Rattle.read_client.specs.Following.{FollowsStage, FollowsWhere}
+use Rattle.read_client.specs.Polling.{CostAt, CostBy}
+use Rattle.read_client.specs.Reading.{opened, shard_of}
 use Rattle.read_client.proofs.OnFronts.{FollowsThere}
 use Rattle.read_client.proofs.Polled.{where_so}
 

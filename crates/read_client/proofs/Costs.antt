@@ -1,5 +1,5 @@
 -- A poll of a reader keeps its cost.
-use Rattle.std.proofs.Common.{◌≡◌, ◌≢◌, ℕ, suc, ◌+◌, ◌*◌, ◌<◌, ◌≤◌, min, Bool, true, false, Option, Some, None, Result, Ok, Err, List, [], ◌∷◌, ◌++◌, length, ◌⊎◌, inl, inr, refl, sym, ap, subst, ◌∙◌, arith}
+use Rattle.std.proofs.Common.{◌≡◌, ℕ, suc, ◌+◌, ◌<◌, ◌≤◌, Bool, true, false, Option, Some, None, Result, Ok, Err, List, [], ◌∷◌, ◌++◌, length, refl, sym, ap, subst, ◌∙◌, arith}
 use Rattle.std.specs.Prelude.{⊤, IfSome, IsSomeAnd, if◌then◌else◌}
 use Rattle.std.specs.Option.{option_map}
 use Rattle.update_core.specs.declared.updates.Update.{Update}
@@ -25,12 +25,11 @@ use Rattle.state_core.specs.declared.refusals.Refusal.TheVariants as refusals
 use Rattle.state_core.specs.Refusals.{member_of}
 use Rattle.state_core.specs.States.{ShardState, is_reader}
 use Rattle.state_core.specs.VersionReading.{most}
-use Rattle.state_core.proofs.ListLemmas.{bool_cases}
 use Rattle.history_core.specs.declared.asked.Asked.{Asked}
 use Rattle.history_core.specs.declared.asked.Asked.TheVariants as asks
 use Rattle.history_core.specs.declared.read_answers.ReadAnswer.{ReadAnswer}
 use Rattle.history_core.specs.declared.read_answers.ReadAnswer.TheVariants as answers
-use Rattle.history_core.specs.Costs.{failed_calls, foreign_commits, WithinReads, read_base}
+use Rattle.history_core.specs.Costs.{failed_calls}
 use Rattle.history_core.specs.Discipline.{LawfulBack}
 use Rattle.history_core.specs.Legal.{collection_in}
 use Rattle.history_core.specs.Stands.{StandsFor}
@@ -52,7 +51,6 @@ use Rattle.load_core.specs.Trying as trying
 use Rattle.load_core.proofs.Counting.{failed_next}
 use Rattle.load_core.proofs.CostSteps.{cost_step}
 use Rattle.load_core.proofs.Runs.{moves_same}
-use Rattle.read_client.specs.declared.questions.Look.{Look}
 use Rattle.read_client.specs.declared.questions.Look.TheVariants as looks
 use Rattle.read_client.specs.declared.questions.Question.{Question}
 use Rattle.read_client.specs.declared.questions.Question.TheVariants as questions

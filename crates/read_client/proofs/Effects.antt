@@ -1,5 +1,5 @@
 -- What a call of a reader commits, by what its poll comes to.
-use Rattle.std.proofs.Common.{cond, ◌≡◌, ◌≢◌, ◌⊎◌, inl, inr, ℕ, ◌+◌, ◌-◌, Bool, true, false, Option, Some, None, Result, Ok, Err, List, [], ◌∷◌, refl, sym, ap, subst, ◌∙◌, arith}
+use Rattle.std.proofs.Common.{◌≡◌, inl, inr, ℕ, ◌+◌, Bool, true, false, Option, Some, None, Result, Ok, Err, List, [], ◌∷◌, refl, sym, ap, subst, ◌∙◌, arith}
 use Rattle.std.specs.Prelude.{IfSome, if◌then◌else◌}
 use Rattle.update_core.specs.Collections.{SnapshotAnswer, ListenAnswer, content, early, late, behind, ended, quiet, step, snapshot_answer, listen_answer}
 use Rattle.store_core.specs.declared.shards.ShardId.{ShardId}
@@ -21,7 +21,6 @@ use Rattle.state_core.proofs.ListLemmas.{bool_cases}
 use Rattle.history_core.specs.declared.asked.Asked.{Asked}
 use Rattle.history_core.specs.declared.asked.Asked.TheVariants as asks
 use Rattle.history_core.specs.declared.read_answers.ReadAnswer.{ReadAnswer}
-use Rattle.history_core.specs.declared.read_answers.ReadAnswer.TheVariants as answers
 use Rattle.history_core.specs.Legal.{collection_in}
 use Rattle.load_core.specs.declared.damages.Damage.{Damage}
 use Rattle.load_core.specs.declared.damages.Damage.TheVariants as damages
@@ -33,7 +32,7 @@ use Rattle.load_core.specs.declared.polls.Poll.TheVariants as polls
 use Rattle.load_core.specs.declared.tries.Tried.{Tried}
 use Rattle.load_core.specs.declared.tries.Tried.TheVariants as tries
 use Rattle.load_core.specs.declared.tryings.Trying.{Trying}
-use Rattle.load_core.specs.Effects.{CommitsFirst, CommitsNone, CommitsStep, StepIn, TriedEffect}
+use Rattle.load_core.specs.Effects.{CommitsNone, StepIn, TriedEffect}
 use Rattle.load_core.specs.Getting as getting
 use Rattle.load_core.specs.Loading.{newest_after}
 use Rattle.load_core.specs.Trying as trying

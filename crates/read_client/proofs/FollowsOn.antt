@@ -1,6 +1,6 @@
 -- A reader follows from its client's own entries also after one more. Entries go newest first.
-use Rattle.std.proofs.Common.{◌≡◌, ◌≢◌, ℕ, zero, suc, ◌+◌, ◌<◌, ◌≤◌, min, Bool, true, false, Option, Some, None, Result, Ok, Err, List, [], ◌∷◌, ◌++◌, length, take, ◌⊎◌, inl, inr, refl, sym, ap, subst, ◌∙◌, append_assoc, arith}
-use Rattle.std.specs.Prelude.{⊤, nat_lt, ◌&&◌, ◌-◌, if◌then◌else◌, unwrap_or, IsSome, IfSome, IsSomeAnd}
+use Rattle.std.proofs.Common.{◌≡◌, ℕ, zero, suc, ◌+◌, ◌<◌, min, Bool, true, false, Option, Some, None, Ok, List, [], ◌∷◌, ◌++◌, take, inl, inr, refl, sym, ap, subst, ◌∙◌, append_assoc, arith}
+use Rattle.std.specs.Prelude.{nat_lt, ◌&&◌, ◌-◌, if◌then◌else◌, unwrap_or, IfSome, IsSomeAnd}
 use Rattle.std.specs.List.{AllByRecursion, slice_get}
 use Rattle.std.specs.Option.{option_map}
 use Rattle.std.proofs.lemmas.Bool.{ltb-true}
@@ -24,7 +24,7 @@ use Rattle.state_core.specs.declared.transitions.Transition.{Transition}
 use Rattle.state_core.specs.declared.transitions.Transition.TheVariants.{Join}
 use Rattle.state_core.specs.declared.refusals.Refusal.{Refusal}
 use Rattle.state_core.specs.declared.refusals.Refusal.TheVariants as refusals
-use Rattle.state_core.specs.Steps.{Applies, acts_for}
+use Rattle.state_core.specs.Steps.{Applies}
 use Rattle.state_core.specs.States.{ShardState, Names}
 use Rattle.state_core.specs.VersionReading.{most, version_in}
 use Rattle.state_core.proofs.ListLemmas.{bool_cases, each_at}
@@ -33,14 +33,13 @@ use Rattle.history_core.specs.declared.asked.Asked.TheVariants as asks
 use Rattle.history_core.specs.declared.read_answers.ReadAnswer.{ReadAnswer}
 use Rattle.history_core.specs.declared.read_answers.ReadAnswer.TheVariants as answers
 use Rattle.history_core.specs.Readings.{are_bytes, rows_in}
-use Rattle.history_core.specs.Discipline.{GotAs, Hold, LawfulBack, OwnsSome, ShowsState}
+use Rattle.history_core.specs.Discipline.{GotAs, Hold, LawfulBack, ShowsState}
 use Rattle.history_core.specs.Laws.{LastIs}
 use Rattle.history_core.specs.Members.{IsKindJoin, JoinedAs, KindJoins}
-use Rattle.history_core.specs.Placing.{IsAnsweredScan, Placed, placed, reply_at, store_at}
+use Rattle.history_core.specs.Placing.{IsAnsweredScan, placed}
 use Rattle.history_core.specs.Stands.{StandsFor}
 use Rattle.history_core.proofs.Entries.{lawful_older}
 use Rattle.history_core.proofs.Gaining.{mine_gained, mine_others}
-use Rattle.load_core.specs.declared.damages.Damage.{Damage}
 use Rattle.load_core.specs.declared.damages.Damage.TheVariants as damages
 use Rattle.load_core.specs.declared.fetches.Fetched.{Fetched}
 use Rattle.load_core.specs.declared.fetches.Fetched.TheVariants as fetches
@@ -52,11 +51,11 @@ use Rattle.load_core.specs.declared.tries.Tried.TheVariants as tries
 use Rattle.load_core.specs.declared.tryings.Trying.{Trying}
 use Rattle.load_core.specs.Following.{FollowsLoading, FollowsTrying}
 use Rattle.load_core.specs.Getting as getting
-use Rattle.load_core.specs.Loading.{Loading, newest_after, scan_from, scan_of}
+use Rattle.load_core.specs.Loading.{newest_after, scan_from, scan_of}
 use Rattle.load_core.specs.Outcomes.{Committing}
 use Rattle.load_core.specs.PartsFollowing.{BringsBytes}
 use Rattle.load_core.specs.Trying as trying
-use Rattle.load_core.proofs.Following.{newest_shows, owns_on, shows_on, with_newest}
+use Rattle.load_core.proofs.Following.{newest_shows, shows_on, with_newest}
 use Rattle.load_core.proofs.GettingFollows.{got_later, still_got}
 use Rattle.load_core.proofs.Outcomes.{committed_here, follows_gained, follows_called}
 use Rattle.load_core.proofs.Runs.{Same, moves_same}
@@ -70,9 +69,9 @@ use Rattle.read_client.specs.declared.stages.Stage.{Stage}
 use Rattle.read_client.specs.declared.stages.Stage.TheVariants as stages
 use Rattle.read_client.specs.Asking.{look_of}
 use Rattle.read_client.specs.Following.{Follows, FollowsStage, IsRead, SinceGot, SinceMissing, SinceScan, own_count}
-use Rattle.read_client.specs.Reading.{GoesBy, IsAsked, IsGetting, change_refused, is_gone, since_of, IsOpen, IsReading, IsSound, Moves, MovesAfterTry, MovesBy, MovesByFetched, Wants, WantsBy, after_poll, call_of, committed_answer, counted, expired, holding, last_member, look_poll, member_after, missing_poll, own_member, question, refused_poll, rows_answer, shard_of, staged, strange, verdict}
+use Rattle.read_client.specs.Reading.{IsAsked, IsGetting, change_refused, is_gone, since_of, IsOpen, IsReading, IsSound, Moves, MovesAfterTry, MovesBy, MovesByFetched, Wants, WantsBy, after_poll, call_of, committed_answer, counted, expired, holding, last_member, look_poll, missing_poll, own_member, question, refused_poll, rows_answer, shard_of, staged, strange, verdict}
 use Rattle.read_client.proofs.HowRead.{IsScanStage, HowGot, gains, fails, misses, spoilt, heavy, HowRead, unscanned, damaged, scanned, checked, got, how_read}
-use Rattle.read_client.proofs.Looks.{ReadsParts, all_named, no_join, parts_some, reads_parts}
+use Rattle.read_client.proofs.Looks.{all_named, no_join, parts_some, reads_parts}
 use Rattle.read_client.proofs.Polled.{Asks, scans, gets, reads_call, tries_call}
 use Rattle.read_client.proofs.Sound.{Ends, asking, kept_trying, missing_ends}
 use Rattle.read_client.proofs.Stretch.{all_more, count_more, get_shows, behind_scan, mine_since, part_there, split_more}

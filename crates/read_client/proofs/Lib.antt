@@ -15,6 +15,7 @@ pub mod Places
 pub mod Polled
 pub mod QuestionLegality
 pub mod ReadLegality
+pub mod Replied
 pub mod Sound
 pub mod Staying
 pub mod StepParts

@@ -1,10 +1,10 @@
 -- What a state says to a question, taken apart.
-use Rattle.std.proofs.Common.{◌≡◌, ℕ, ◌≤◌, Bool, true, false, cond, Option, Some, None, List, [], ◌∷◌, ◌++◌, ◌⊎◌, inl, inr, refl, sym, ap, subst, ◌∙◌}
-use Rattle.std.specs.Prelude.{⊤, ◌&&◌, filter, nat_le, nat_lt}
+use Rattle.std.proofs.Common.{◌≡◌, ℕ, Bool, true, false, cond, Option, Some, None, List, [], ◌∷◌, inl, inr, refl, sym, ap, subst, ◌∙◌}
+use Rattle.std.specs.Prelude.{◌&&◌, filter, nat_le, nat_lt}
 use Rattle.std.specs.List.{AllByRecursion}
 use Rattle.std.specs.Ordering.{is_lt}
 use Rattle.update_core.specs.declared.updates.Update.{Update}
-use Rattle.update_core.specs.Collections.{Collection as PlainCollection, SnapshotAnswer, ListenAnswer, content, early, late, behind, ended, quiet, step, snapshot_answer, listen_answer, is_closed, is_past}
+use Rattle.update_core.specs.Collections.{content, early, late, behind, ended, quiet, step, snapshot_answer, listen_answer, is_closed, is_past}
 use Rattle.update_core.specs.Frontiers.{covers, frontier_cmp, is_from}
 use Rattle.update_core.specs.Updates.{slice_of, sum_of}
 use Rattle.store_core.specs.declared.part_keys.PartKey.{PartKey}

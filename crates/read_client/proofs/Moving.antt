@@ -1,6 +1,6 @@
 -- What the code of a reader needs of its words.
-use Rattle.std.proofs.Common.{◌≡◌, ℕ, ◌+◌, ◌≤◌, Bool, true, false, Option, Some, None, Result, Ok, Err, List, [], ◌∷◌, length, inl, inr, refl, sym, ap, subst, ◌∙◌, arith}
-use Rattle.std.specs.Prelude.{IsSome, IfOk, IfSome, IsSomeAnd, is_some, not}
+use Rattle.std.proofs.Common.{◌≡◌, ℕ, Bool, true, false, Option, Some, None, Result, Ok, Err, List, [], refl, sym, ap, subst, ◌∙◌}
+use Rattle.std.specs.Prelude.{IsSome, IfOk, IfSome, is_some, not}
 use Rattle.std.specs.declared.alloc.AllocError.{AllocError}
 use Rattle.update_core.specs.declared.rows.Row.{Row}
 use Rattle.update_core.specs.declared.updates.Update.{Update}
@@ -16,7 +16,6 @@ use Rattle.state_core.specs.States.{ShardState}
 use Rattle.history_core.specs.declared.asked.Asked.{Asked}
 use Rattle.history_core.specs.declared.read_answers.ReadAnswer.{ReadAnswer}
 use Rattle.history_core.specs.declared.read_answers.ReadAnswer.TheVariants as answers
-use Rattle.load_core.specs.declared.attempts.Attempt.{Attempt}
 use Rattle.load_core.specs.declared.damages.Damage.{Damage}
 use Rattle.load_core.specs.declared.nexts.Next.{Next}
 use Rattle.load_core.specs.declared.nexts.Next.TheVariants as nexts
@@ -32,7 +31,6 @@ use Rattle.load_core.proofs.Newest.{newest_or, or_before}
 use Rattle.read_client.specs.declared.questions.Question.{Question}
 use Rattle.read_client.specs.declared.questions.Question.TheVariants as questions
 use Rattle.read_client.specs.declared.readers.Reader.{Reader}
-use Rattle.read_client.specs.declared.stages.Stage.{Stage}
 use Rattle.read_client.specs.Reading.{AsksAs, ChecksAt, IsOpen, IsReading, IsSound, LooksAt, MovesAfterCheck, MovesAfterScan, MovesAfterTry, after_poll, holding, missing_poll, question, rows_answer, upper_of, verdict}
 
 -- ---- rows from nothing

@@ -1,11 +1,9 @@
 -- A reader follows on the fronts of its polls.
 use Rattle.std.proofs.Common.{◌≡◌, ◌≢◌, ℕ, ◌+◌, ◌<◌, ◌≤◌, Bool, true, false, Option, Some, None, Result, Ok, Err, List, [], ◌∷◌, ◌++◌, ◌⊎◌, inl, inr, refl, sym, ap, subst, ◌∙◌, append_assoc, arith}
-use Rattle.std.specs.Prelude.{⊤, reverse, IsSome, IfOk, IfSome, IsSomeAnd, OnErr}
-use Rattle.std.specs.List.{AllByRecursion}
+use Rattle.std.specs.Prelude.{reverse, IfOk, IfSome, IsSomeAnd, OnErr}
 use Rattle.std.specs.declared.alloc.AllocError.{AllocError}
 use Rattle.update_core.specs.declared.updates.Update.{Update}
 use Rattle.store_core.specs.declared.shards.ShardId.{ShardId}
-use Rattle.store_core.specs.declared.part_keys.PartKey.{PartKey}
 use Rattle.store_core.specs.declared.calls.Call.{Call}
 use Rattle.store_core.specs.declared.replies.Reply.{Reply}
 use Rattle.store_core.specs.declared.entries.Entry.{Entry}
@@ -16,11 +14,9 @@ use Rattle.store_core.specs.Newest.{mine_back, replay_back}
 use Rattle.store_core.proofs.NewestLaws.{oldest-last}
 use Rattle.state_core.specs.declared.kinds.Kind.TheVariants.{Reader as AsReader}
 use Rattle.state_core.specs.States.{ShardState}
-use Rattle.state_core.specs.VersionReading.{most}
 use Rattle.state_core.proofs.ListLemmas.{each_append}
 use Rattle.history_core.specs.declared.read_answers.ReadAnswer.{ReadAnswer}
-use Rattle.history_core.specs.Discipline.{GotAs, Hold, Lawful, LawfulBack}
-use Rattle.history_core.specs.Laws.{LastIs}
+use Rattle.history_core.specs.Discipline.{GotAs, Hold, Lawful}
 use Rattle.history_core.specs.Members.{JoinedAs}
 use Rattle.history_core.specs.Placing.{IsAnsweredScan, placed}
 use Rattle.history_core.specs.Stands.{StandsFor}
@@ -31,7 +27,6 @@ use Rattle.load_core.specs.declared.fetches.Fetched.{Fetched}
 use Rattle.load_core.specs.declared.fetches.Fetched.TheVariants as fetches
 use Rattle.load_core.specs.declared.gettings.Getting.{Getting}
 use Rattle.load_core.specs.declared.polls.Poll.{Poll}
-use Rattle.load_core.specs.declared.polls.Poll.TheVariants as polls
 use Rattle.load_core.specs.declared.tryings.Trying.{Trying}
 use Rattle.load_core.specs.Following.{FollowsTrying}
 use Rattle.load_core.specs.Fronts.{Backwards, WhereLawful}
@@ -45,11 +40,11 @@ use Rattle.read_client.specs.declared.questions.Question.{Question}
 use Rattle.read_client.specs.declared.readers.Reader.{Reader}
 use Rattle.read_client.specs.declared.stages.Stage.{Stage}
 use Rattle.read_client.specs.declared.stages.Stage.TheVariants as stages
-use Rattle.read_client.specs.Following.{Follows, FollowsStage, FollowsWhere, IsRead, SinceGot, SinceMissing, SinceScan, own_count}
+use Rattle.read_client.specs.Following.{Follows, FollowsStage, FollowsWhere, IsRead, SinceGot, SinceMissing, SinceScan}
 use Rattle.read_client.specs.Reading.{IsOpen, IsSound, Moves, MovesBy, MovesByFetched, Prepares, PreparesBy, Wants, WantsBy, after_poll, call_of, counted, holding, look_poll, question, shard_of, staged}
 use Rattle.read_client.proofs.FollowsOn.{moved_on, wants_on}
-use Rattle.read_client.proofs.HowRead.{HowGot, HowRead, unscanned, damaged, scanned, checked, got, how_read}
-use Rattle.read_client.proofs.Polled.{Readied, readied, readied_open, readied_trying, where_so}
+use Rattle.read_client.proofs.HowRead.{HowRead, unscanned, damaged, scanned, checked, got, how_read}
+use Rattle.read_client.proofs.Polled.{readied, readied_trying, where_so}
 use Rattle.read_client.proofs.Sound.{kept_trying}
 use Rattle.read_client.proofs.Stretch.{all_others, count_others}
 

@@ -1,9 +1,8 @@
 -- What one poll of a reader does.
-use Rattle.std.proofs.Common.{◌≡◌, ℕ, ◌+◌, ◌<◌, Bool, true, false, Option, Some, None, Result, Ok, Err, List, [], ◌∷◌, ◌⊎◌, inl, inr, refl, sym, ap, subst, ◌∙◌}
-use Rattle.std.specs.Prelude.{⊤, reverse, IsSome, IfOk, IfSome, IsSomeAnd, OnErr}
+use Rattle.std.proofs.Common.{◌≡◌, ℕ, ◌+◌, true, false, Option, Some, None, Result, Ok, Err, List, [], ◌∷◌, inl, inr, refl, sym, ap, subst, ◌∙◌}
+use Rattle.std.specs.Prelude.{reverse, IsSome, IfOk, IfSome, IsSomeAnd, OnErr}
 use Rattle.std.specs.Option.{option_map}
 use Rattle.std.specs.declared.alloc.AllocError.{AllocError}
-use Rattle.causes.specs.Causes.{Rose}
 use Rattle.update_core.specs.declared.updates.Update.{Update}
 use Rattle.update_core.specs.Frontiers.{after}
 use Rattle.store_core.specs.declared.shards.ShardId.{ShardId}
@@ -17,20 +16,18 @@ use Rattle.store_core.specs.declared.turns.Turn.TheVariants as turns
 use Rattle.store_core.specs.declared.entries.Entry.{Entry}
 use Rattle.store_core.specs.Stores.{Stored}
 use Rattle.store_core.specs.Histories.{History}
-use Rattle.store_core.specs.Ports.{Answered, GainsWhereTold, GrowsByOthers, IsFailure, Sees}
+use Rattle.store_core.specs.Ports.{Answered, GainsWhereTold, IsFailure, Sees}
 use Rattle.store_core.specs.Newest.{mine_back}
 use Rattle.state_core.specs.declared.kinds.Kind.TheVariants.{Reader as AsReader}
 use Rattle.state_core.specs.declared.transitions.Transition.{Transition}
 use Rattle.state_core.specs.declared.transitions.Transition.TheVariants.{Join, Leave, Renew, Advance}
-use Rattle.state_core.specs.declared.refusals.Refusal.{Refusal}
 use Rattle.state_core.specs.States.{ShardState}
 use Rattle.state_core.specs.VersionReading.{version_in}
 use Rattle.state_core.proofs.Rising.{shard_stays}
 use Rattle.history_core.specs.declared.asked.Asked.{Asked}
 use Rattle.history_core.specs.declared.asked.Asked.TheVariants as asks
 use Rattle.history_core.specs.declared.read_answers.ReadAnswer.{ReadAnswer}
-use Rattle.history_core.specs.Discipline.{Allows, Holds, Lawful}
-use Rattle.history_core.specs.Stands.{StandsFor}
+use Rattle.history_core.specs.Discipline.{Allows, Holds}
 use Rattle.load_core.specs.declared.damages.Damage.{Damage}
 use Rattle.load_core.specs.declared.damages.Damage.TheVariants as damages
 use Rattle.load_core.specs.declared.fetches.Fetched.{Fetched}
@@ -45,6 +42,7 @@ use Rattle.load_core.specs.declared.tries.Tried.{Tried}
 use Rattle.load_core.specs.declared.tries.Tried.TheVariants as tries
 use Rattle.load_core.specs.declared.tryings.Trying.{Trying}
 use Rattle.load_core.specs.Following.{FollowsTrying, HoldsNext}
+use Rattle.load_core.specs.Effects.{IsShown}
 use Rattle.load_core.specs.Fronts.{Backwards, WhereLawful}
 use Rattle.load_core.specs.Getting as getting
 use Rattle.load_core.specs.Loading.{IsOf, Loading, newest_after, scan_of}
@@ -62,9 +60,10 @@ use Rattle.read_client.specs.declared.stages.Stage.TheVariants as stages
 use Rattle.read_client.specs.Asking.{look_of, question_of, step_question}
 use Rattle.read_client.specs.Following.{Follows, FollowsWhere}
 use Rattle.read_client.specs.Polling.{Calls, Effect, IsReading, Polled, Unpolled}
-use Rattle.read_client.specs.Reading.{AsksAs, GoesBy, IsAsked, IsOpen, IsSound, Moves, MovesBy, MovesByFetched, MovesAfterTry, Prepares, PreparesBy, Wants, WantsBy, after_poll, call_by, call_of, counted, expired, holding, is_gone, look_poll, missing_poll, own_member, question, read_call, refused_poll, rows_answer, shard_of, strange, verdict}
+use Rattle.read_client.specs.Reading.{AsksAs, IsOpen, IsSound, Moves, MovesBy, MovesByFetched, Prepares, PreparesBy, Wants, WantsBy, call_by, call_of, counted, holding, look_poll, own_member, question, read_call, shard_of, verdict}
 use Rattle.read_client.proofs.Effects.{counted_more, effect_of}
-use Rattle.read_client.proofs.Moving.{Prepared, prepared}
+use Rattle.read_client.proofs.Replied.{goes_answered, refusal_shown}
+use Rattle.read_client.proofs.Moving.{prepared}
 use Rattle.read_client.proofs.HowRead.{IsScanStage, HowGot, gains, fails, misses, spoilt, heavy, HowRead, unscanned, damaged, scanned, checked, got, how_read}
 use Rattle.read_client.proofs.Sound.{Ends, refused_ends, missing_ends}
 
@@ -302,6 +301,8 @@ module _ (client : ℕ) (front now : Option History) (old ready : Reader) (is_op
     gains = gained;
     moves = moves;
     failed = failed (comes ready new reply poll moves);
+    answered = λ more. goes_answered ready new reply (subst (λ (p : Poll ReadAnswer). Moves ready reply new p) more moves);
+    shown = λ refused. subst (λ (d : ShardId). IsShown d call reply) shard_same (refusal_shown ready new call reply poll call_is moves refused);
     counted = counted_more ready new reply poll moves ∙ ap trying.more calls_same;
     effect = subst (λ (x : Transition). Effect (shard_of old) x call reply poll) step_same (subst (λ (d : ShardId). Effect d ready.trying.step call reply poll) shard_same (effect_of ready new call reply poll s call_is moves));
   }

@@ -1,5 +1,5 @@
 -- A reader is sound after what a reply comes to.
-use Rattle.std.proofs.Common.{◌≡◌, ℕ, ◌+◌, ◌<◌, ◌≤◌, Bool, true, false, Option, Some, None, Result, Ok, Err, List, [], ◌∷◌, length, ◌⊎◌, inl, inr, refl, sym, ap, subst, ◌∙◌, arith}
+use Rattle.std.proofs.Common.{◌≡◌, ℕ, Bool, true, false, Option, Some, None, Result, Ok, List, [], ◌∷◌, ◌⊎◌, inl, inr, refl, sym, ap, subst, ◌∙◌, arith}
 use Rattle.std.specs.Prelude.{⊤, IsSome, IfSome, IsSomeAnd, unwrap_or, if◌then◌else◌}
 use Rattle.store_core.specs.declared.shards.ShardId.{ShardId}
 use Rattle.store_core.specs.declared.part_keys.PartKey.{PartKey}
@@ -17,7 +17,6 @@ use Rattle.load_core.specs.declared.damages.Damage.TheVariants as damages
 use Rattle.load_core.specs.declared.fetches.Fetched.{Fetched}
 use Rattle.load_core.specs.declared.fetches.Fetched.TheVariants as fetches
 use Rattle.load_core.specs.declared.gettings.Getting.{Getting}
-use Rattle.load_core.specs.declared.nexts.Next.{Next}
 use Rattle.load_core.specs.declared.nexts.Next.TheVariants as nexts
 use Rattle.load_core.specs.declared.polls.Poll.{Poll}
 use Rattle.load_core.specs.declared.polls.Poll.TheVariants as polls
@@ -26,11 +25,11 @@ use Rattle.load_core.specs.declared.tries.Tried.{Tried}
 use Rattle.load_core.specs.declared.tries.Tried.TheVariants as tries
 use Rattle.load_core.specs.declared.tryings.Trying.{Trying}
 use Rattle.load_core.specs.Getting as getting
-use Rattle.load_core.specs.Loading.{Loading, newest_after}
+use Rattle.load_core.specs.Loading.{newest_after}
 use Rattle.load_core.specs.Trying as trying
 use Rattle.load_core.proofs.Outcomes.{HowMoved, scanned as try_scanned, failed as try_failed, cased as try_cased, how_moved}
 use Rattle.load_core.proofs.Causes.{newest_none}
-use Rattle.load_core.proofs.Runs.{Same, moves_same}
+use Rattle.load_core.proofs.Runs.{moves_same}
 use Rattle.read_client.specs.declared.questions.Look.{Look}
 use Rattle.read_client.specs.declared.questions.Look.TheVariants as looks
 use Rattle.read_client.specs.declared.questions.Question.{Question}
@@ -38,7 +37,7 @@ use Rattle.read_client.specs.declared.readers.Reader.{Reader}
 use Rattle.read_client.specs.declared.stages.Stage.{Stage}
 use Rattle.read_client.specs.declared.stages.Stage.TheVariants as stages
 use Rattle.read_client.specs.Asking.{look_of}
-use Rattle.read_client.specs.Reading.{GoesBy, IsAsked, IsGetting, IsOpen, IsReading, IsSound, Moves, MovesBy, MovesByFetched, MovesAfterTry, WantsBy, Wants, after_poll, change_refused, committed_answer, counted, expired, holding, is_gone, missing_poll, own_member, question, look_poll, refused_poll, rows_answer, staged, strange, verdict}
+use Rattle.read_client.specs.Reading.{GoesBy, IsAsked, IsGetting, IsOpen, IsReading, IsSound, Moves, MovesBy, MovesByFetched, MovesAfterTry, WantsBy, Wants, after_poll, change_refused, counted, expired, holding, is_gone, missing_poll, own_member, question, look_poll, refused_poll, rows_answer, staged, strange, verdict}
 use Rattle.read_client.proofs.Moving.{idle_sound, no_open, with_trying}
 use Rattle.read_client.proofs.HowRead.{HowGot, gains, fails, misses, spoilt, heavy, HowRead, unscanned, damaged, scanned, checked, got, how_read}
 

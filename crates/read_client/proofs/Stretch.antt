@@ -1,6 +1,5 @@
 -- A client's entries since a Scan, with one more after entries of others. Entries go newest first.
-use Rattle.std.proofs.Common.{◌≡◌, ◌≢◌, ℕ, zero, suc, ◌+◌, ◌<◌, ◌≤◌, Bool, true, false, cond, Option, Some, None, Result, Ok, List, [], ◌∷◌, ◌++◌, ◌⊎◌, inl, inr, refl, sym, ap, subst, ◌∙◌, append_assoc, arith}
-use Rattle.std.specs.Prelude.{⊤, reverse}
+use Rattle.std.proofs.Common.{◌≡◌, ℕ, ◌+◌, ◌≤◌, Option, Some, None, List, [], ◌∷◌, ◌++◌, inl, inr, refl, sym, ap, subst, ◌∙◌, append_assoc, arith}
 use Rattle.std.specs.List.{AllByRecursion}
 use Rattle.std.proofs.lemmas.Bool.{eq-eqb, ne_eqb}
 use Rattle.update_core.specs.declared.updates.Update.{Update}
@@ -10,29 +9,25 @@ use Rattle.store_core.specs.declared.calls.Call.{Call}
 use Rattle.store_core.specs.declared.calls.Call.TheVariants as calls
 use Rattle.store_core.specs.declared.outcomes.Outcome.{Outcome}
 use Rattle.store_core.specs.declared.outcomes.Outcome.TheVariants.{Took, FailedTook, FailedLost}
-use Rattle.store_core.specs.declared.replies.Reply.{Reply}
 use Rattle.store_core.specs.declared.replies.Reply.TheVariants as replies
 use Rattle.store_core.specs.declared.entries.Entry.{Entry}
 use Rattle.store_core.specs.Stores.{Stored}
-use Rattle.store_core.specs.Histories.{after_outcome, next, reply, reply_by}
-use Rattle.store_core.specs.Ports.{Answered, OfOthers, answered}
+use Rattle.store_core.specs.Histories.{next, reply, reply_by}
+use Rattle.store_core.specs.Ports.{OfOthers, answered}
 use Rattle.store_core.specs.Newest.{mine_back, replay_back}
-use Rattle.state_core.specs.States.{ShardState, Names, IsState, keys_of, floor}
+use Rattle.state_core.specs.States.{ShardState, Names, floor}
 use Rattle.state_core.proofs.Floors.{floor_top}
 use Rattle.history_core.specs.Readings.{rows_in}
-use Rattle.history_core.specs.Discipline.{GotAs, LawfulBack}
-use Rattle.history_core.specs.Stands.{Collection, Empty, StandsFor, PartRows, accepted, IsPresent}
+use Rattle.history_core.specs.Discipline.{LawfulBack}
+use Rattle.history_core.specs.Stands.{Collection, StandsFor, accepted}
 use Rattle.history_core.specs.Laws.{LastIs}
-use Rattle.history_core.specs.Placing.{IsAnsweredScan, Placed, placed}
 use Rattle.history_core.proofs.Bases.{base_of}
-use Rattle.history_core.proofs.Entries.{lawful_older}
 use Rattle.history_core.proofs.Gaining.{mine_gained}
 use Rattle.history_core.proofs.LawfulLaws.{lawful_of_older}
-use Rattle.history_core.proofs.Lasts.{scan_keeps}
 use Rattle.history_core.proofs.StandsAfter.{stands_after}
 use Rattle.history_core.proofs.StateFacts.{last_one, state_none, state_number}
 use Rattle.history_core.proofs.Stays.{bytes_stay}
-use Rattle.read_client.specs.Following.{IsRead, own_count}
+use Rattle.read_client.specs.Following.{own_count}
 
 -- entries after others
 pub replay_behind : (start : Stored) (fs es : List Entry) → replay_back start (fs ++ es) ≡ replay_back (replay_back start es) fs

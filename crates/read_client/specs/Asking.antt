@@ -1,5 +1,5 @@
 -- What a snapshot or a step of a listen makes of a state.
-use Rattle.std.specs.Prelude.{ℕ, Option, Some, None, List, [], if◌then◌else◌}
+use Rattle.std.specs.Prelude.{ℕ, Option, Some, None, [], if◌then◌else◌}
 use Rattle.update_core.specs.Collections.{SnapshotAnswer, ListenAnswer, content, early, late, behind, ended, quiet, step, snapshot_answer, listen_answer}
 use Rattle.state_core.specs.declared.members.Member.{Member}
 use Rattle.state_core.specs.Refusals.{member_of}

@@ -1,5 +1,5 @@
 -- Why a reader's command isn't begun, and what begins otherwise.
-use Rattle.std.specs.Prelude.{◌≡◌, ◌⊎◌, ℕ, Option, Some, None, Result, Ok, Err}
+use Rattle.std.specs.Prelude.{◌≡◌, ℕ, Option, Some, None, Result, Ok, Err}
 use Rattle.state_core.specs.declared.transitions.Transition.{Transition}
 use Rattle.history_core.specs.declared.asked.Asked.{Asked}
 use Rattle.load_core.specs.declared.begin_faults.BeginFault.{BeginFault}

@@ -1,5 +1,5 @@
 -- What a client's own entries say of a reader. Entries go newest first.
-use Rattle.std.specs.Prelude.{⊤, ◌≡◌, ℕ, ◌+◌, ◌<◌, ◌==◌, if◌then◌else◌, Option, Some, None, IfSome, IsSomeAnd, List, [], ◌∷◌, ◌++◌, take}
+use Rattle.std.specs.Prelude.{⊤, ◌≡◌, ℕ, ◌+◌, ◌<◌, ◌==◌, if◌then◌else◌, Option, None, IfSome, IsSomeAnd, List, [], ◌∷◌, ◌++◌, take}
 use Rattle.std.specs.List.{AllByRecursion}
 use Rattle.store_core.specs.declared.part_keys.PartKey.{PartKey}
 use Rattle.store_core.specs.declared.calls.Call.{Call}
@@ -20,7 +20,6 @@ use Rattle.load_core.specs.Fronts.{Backwards, WhereLawful}
 use Rattle.read_client.specs.declared.readers.Reader.{Reader}
 use Rattle.read_client.specs.declared.stages.Stage.{Stage}
 use Rattle.read_client.specs.declared.stages.Stage.TheVariants as stages
-use Rattle.read_client.specs.declared.questions.Question.{Question}
 use Rattle.read_client.specs.Reading.{question, shard_of}
 
 -- a Scan or a Get

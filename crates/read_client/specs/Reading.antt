@@ -1,5 +1,5 @@
 -- A reader: what it does next, and what a reply makes of it.
-use Rattle.std.specs.Prelude.{⊤, ◌≡◌, ℕ, ◌-◌, Bool, true, false, Option, Some, None, IsSome, IfSome, IsSomeAnd, unwrap_or, is_none, if◌then◌else◌, Result, Ok, Err, List, [], ◌∷◌}
+use Rattle.std.specs.Prelude.{⊤, ◌≡◌, ℕ, ◌-◌, Bool, true, Option, Some, None, IsSome, IfSome, IsSomeAnd, unwrap_or, is_none, if◌then◌else◌, Result, Ok, Err, List, [], ◌∷◌}
 use Rattle.update_core.specs.declared.updates.Update.{Update}
 use Rattle.update_core.specs.Frontiers.{after}
 use Rattle.update_core.specs.Updates.{slice_of, sum_of}

@@ -14,6 +14,7 @@ pub mod Legality
 pub mod Members
 pub mod Polling
 pub mod Reasons
+pub mod Replied
 pub mod Rows
 pub mod Sounding
 pub mod Spendings

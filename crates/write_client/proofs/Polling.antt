@@ -26,6 +26,7 @@ use Rattle.load_core.specs.declared.settings.Setting.{Setting}
 use Rattle.load_core.specs.declared.tries.Tried.{Tried}
 use Rattle.load_core.specs.declared.tries.Tried.TheVariants as tries
 use Rattle.load_core.specs.declared.tryings.Trying.{Trying}
+use Rattle.load_core.specs.Effects.{IsShown}
 use Rattle.load_core.specs.Fronts.{Backwards, WhereLawful}
 use Rattle.load_core.specs.Runs.{OnlyCarries}
 use Rattle.load_core.specs.Setting as setting
@@ -40,6 +41,7 @@ use Rattle.write_client.proofs.Allowing.{call_allowed, call_carries, call_false}
 use Rattle.write_client.proofs.Effects.{counted_more, effect_of}
 use Rattle.write_client.proofs.Endings.{HowEnded, more, fault, spent, damaged, opened, full, appended, resolved, mismatched, heavy, odd, closed, gone, how_ended}
 use Rattle.write_client.proofs.Following.{prepared_where, there_too}
+use Rattle.write_client.proofs.Replied.{goes_answered, refusal_shown}
 use Rattle.write_client.proofs.Sounding.{asked_is, prepares_is}
 
 -- ---- the two ways of a reply
@@ -150,6 +152,8 @@ polled_one client front front_now old t r new poll prepares sound is f a moves =
       gains = a.sees;
       moves = moves;
       failed = moves_fault w r new poll sound moves;
+      answered = λ more. goes_answered w new r (subst (λ (p : Poll WriteAnswer). Moves w r new p) more moves);
+      shown = λ refused. subst (λ (d : ShardId). IsShown d a.call r) shard_is (refusal_shown w new a.call r poll a.call_is moves refused);
       counted = counted_more w new r poll moves ∙ ap (λ (z : Trying). trying.more z.calls) same;
       effect = subst (λ (d : ShardId). Effect d old.trying.step a.call r poll) shard_is
           (subst (λ (x : Transition). Effect (shard_of w) x a.call r poll) (ap (λ (z : Trying). z.step) same) (effect_of w new a.call r poll sound a.call_is moves));

@@ -1,5 +1,5 @@
 -- What one poll of a writer does, answers and costs. Entries go newest first.
-use Rattle.std.specs.Prelude.{⊤, ◌≡◌, ◌⊎◌, ℕ, ◌+◌, ◌<◌, ◌≤◌, Option, Some, None, IfSome, List, length}
+use Rattle.std.specs.Prelude.{⊤, ◌≡◌, ◌≢◌, ◌⊎◌, ℕ, ◌+◌, ◌<◌, ◌≤◌, Option, Some, None, IfSome, List, length}
 use Rattle.update_core.specs.declared.updates.Update.{Update}
 use Rattle.store_core.specs.declared.shards.ShardId.{ShardId}
 use Rattle.store_core.specs.declared.calls.Call.{Call}
@@ -23,7 +23,7 @@ use Rattle.load_core.specs.declared.polls.Poll.TheVariants as polls
 use Rattle.load_core.specs.Costing.{CostKept, CostEnded}
 use Rattle.load_core.specs.Fronts.{Backwards, WhereLawful}
 use Rattle.load_core.specs.Runs.{OnlyCarries}
-use Rattle.load_core.specs.Effects.{CommitsFirst, CommitsNone, CommitsStep}
+use Rattle.load_core.specs.Effects.{CommitsFirst, CommitsNone, CommitsStep, IsShown}
 use Rattle.load_core.specs.Trying as trying
 use Rattle.write_client.specs.declared.writers.Writer.{Writer}
 use Rattle.write_client.specs.Writing.{Moves, Prepares, call_of, shard_of}
@@ -41,6 +41,14 @@ Effect shard step call reply (polls.Done (answers.Closed version)) = CommitsStep
 Effect shard step call reply (polls.Done _) = CommitsNone reply
 Effect shard step call reply _ = ⊤
 
+-- what was asked isn't done, or can't be
+abbrev pub IsRefusal : Poll WriteAnswer → Type 0
+IsRefusal polls.Spent = ⊤
+IsRefusal (polls.Done (answers.MembersFull version)) = ⊤
+IsRefusal (polls.Done (answers.Mismatch current)) = ⊤
+IsRefusal (polls.Done (answers.Heavy weight)) = ⊤
+IsRefusal _ = ⊥
+
 -- its one call, which the client may make and whose Cas carries what was asked, and what the reply to it comes to
 pub record Calls (client : ℕ) (front front_now : Option History) (old new : Writer) (poll : Poll WriteAnswer) : Type 0 where
   pub ready : Writer
@@ -53,7 +61,9 @@ pub record Calls (client : ℕ) (front front_now : Option History) (old new : Wr
   pub gains : GainsWhereTold client front front_now call reply
   pub moves : Moves ready reply new poll
   pub failed : poll ≡ polls.Fault → reply ≡ replies.Failed
-  -- (asked for by the lead after the brief: `run` needs these two)
+  pub answered : poll ≡ polls.More → reply ≢ replies.Failed
+  -- a refusal is what a Scan shows, and this very call is the Scan
+  pub shown : IsRefusal poll → IsShown (shard_of old) call reply
   pub counted : new.trying.calls ≡ trying.more old.trying.calls
   pub effect : Effect (shard_of old) old.trying.step call reply poll
 

@@ -3,12 +3,15 @@ use Rattle.std.specs.Prelude.{IsSome, Ok}
 use Rattle.causes.specs.Causes.{Rose}
 use Rattle.persist_app.specs.declared.session_faults.SessionFault.{SessionFault}
 use Rattle.load_core.specs.declared.polls.Poll.TheVariants as polls
+use Rattle.store_core.specs.declared.shards.ShardId.{ShardId}
 use Rattle.history_core.specs.declared.asked.Asked.{Asked}
+use Rattle.load_core.specs.Fronts.{Backwards, WhereLawful}
+use Rattle.read_client.specs.Polling.{CostAt}
 use Rattle.read_client.specs.Following.{FollowsWhere}
 use Rattle.persist_app.proofs.GoingLaws.{loan_kept}
 use Rattle.persist_app.specs.Drives.{Failed}
 use Rattle.persist_app.specs.Goings.{Goes}
-use Rattle.persist_app.proofs.ReadDrives.{as_legal, as_polled, as_unpolled, reads_damaged, reads_done, reads_fault, reads_memory, reads_on, reads_spent, reads_start, reads_stop, reads_wait}
+use Rattle.persist_app.proofs.ReadDrives.{as_cost, as_legal, as_polled, as_unpolled, reads_damaged, reads_done, reads_fault, reads_memory, reads_on, reads_spent, reads_start, reads_end}
 use Rattle.std.proofs.lemmas.Result.{err_from_is_err_and}
 use Rattle.persist_app.proofs.drives.drive_reader.Goals as goal
 use Rattle.persist_app.proofs.drives.drive_reader.Goals.{in-Busy, in-More}
@@ -18,7 +21,8 @@ loop-init g c = record {
   so_far = reads_start c.args.reader.now (g.S.Store.history c.args.port.now.store) c.requires.begun;
   sound = c.requires.sound;
   follows = c.requires.follows;
-  few = (let zero_calls : c.args.reader.now.trying.calls ≡ 0 = c.requires.begun in omega arith);
+  cost = c.requires.cost;
+  few = c.requires.begun;
   client = c.requires.client;
   calls = omega arith;
 }
@@ -81,7 +85,7 @@ returns-in-Spent-clause-told g c =
     let sole = loan_kept b d c.poll.new.port.client c.loop.port.client 1 c.in_ok-poll.ensures.loan c.in_ok-poll.ensures.client c.loop.invariant.client in
     let polled = as_polled c.loop.port.client b d c.loop.reader c.poll.new.self c.in_ok-poll.field-0 polls.Spent c.loop.invariant.client c.in-Spent.is c.in_ok-poll.ensures.polled in
     let legal = as_legal c.loop.port.client d c.loop.reader c.poll.new.self c.in_ok-poll.field-0 polls.Spent c.loop.invariant.client c.in-Spent.is c.in_ok-poll.ensures.legal in
-    let few : c.loop.reader.trying.calls < 4611686018427387904 = omega (arith, c.loop.invariant.few, c.loop-test.true) in
+    let few : c.loop.reader.trying.calls < 9223372036854775808 = omega (arith, c.loop.invariant.few, c.loop-test.true) in
     reads_spent c.args.reader.now c.loop.reader c.poll.new.self a b d c.requires.shard few c.loop.invariant.so_far polled sole legal
 
 pub returns-in-Done-clause-told : goal.returns-in-Done-clause-told
@@ -92,7 +96,7 @@ returns-in-Done-clause-told g c =
     let sole = loan_kept b d c.poll.new.port.client c.loop.port.client 1 c.in_ok-poll.ensures.loan c.in_ok-poll.ensures.client c.loop.invariant.client in
     let polled = as_polled c.loop.port.client b d c.loop.reader c.poll.new.self c.in_ok-poll.field-0 (polls.Done c.in-Done.answer) c.loop.invariant.client c.in-Done.is c.in_ok-poll.ensures.polled in
     let legal = as_legal c.loop.port.client d c.loop.reader c.poll.new.self c.in_ok-poll.field-0 (polls.Done c.in-Done.answer) c.loop.invariant.client c.in-Done.is c.in_ok-poll.ensures.legal in
-    let few : c.loop.reader.trying.calls < 4611686018427387904 = omega (arith, c.loop.invariant.few, c.loop-test.true) in
+    let few : c.loop.reader.trying.calls < 9223372036854775808 = omega (arith, c.loop.invariant.few, c.loop-test.true) in
     (reads_done c.args.reader.now c.loop.reader c.poll.new.self c.in-Done.answer a b d c.requires.shard few c.loop.invariant.so_far polled sole legal).0
 
 pub returns-in-Done-clause-by : goal.returns-in-Done-clause-by
@@ -103,7 +107,7 @@ returns-in-Done-clause-by g c =
     let sole = loan_kept b d c.poll.new.port.client c.loop.port.client 1 c.in_ok-poll.ensures.loan c.in_ok-poll.ensures.client c.loop.invariant.client in
     let polled = as_polled c.loop.port.client b d c.loop.reader c.poll.new.self c.in_ok-poll.field-0 (polls.Done c.in-Done.answer) c.loop.invariant.client c.in-Done.is c.in_ok-poll.ensures.polled in
     let legal = as_legal c.loop.port.client d c.loop.reader c.poll.new.self c.in_ok-poll.field-0 (polls.Done c.in-Done.answer) c.loop.invariant.client c.in-Done.is c.in_ok-poll.ensures.legal in
-    let few : c.loop.reader.trying.calls < 4611686018427387904 = omega (arith, c.loop.invariant.few, c.loop-test.true) in
+    let few : c.loop.reader.trying.calls < 9223372036854775808 = omega (arith, c.loop.invariant.few, c.loop-test.true) in
     (reads_done c.args.reader.now c.loop.reader c.poll.new.self c.in-Done.answer a b d c.requires.shard few c.loop.invariant.so_far polled sole legal).1
 
 pub returns-in-Done-clause-ended : goal.returns-in-Done-clause-ended
@@ -114,7 +118,7 @@ returns-in-Done-clause-ended g c =
     let sole = loan_kept b d c.poll.new.port.client c.loop.port.client 1 c.in_ok-poll.ensures.loan c.in_ok-poll.ensures.client c.loop.invariant.client in
     let polled = as_polled c.loop.port.client b d c.loop.reader c.poll.new.self c.in_ok-poll.field-0 (polls.Done c.in-Done.answer) c.loop.invariant.client c.in-Done.is c.in_ok-poll.ensures.polled in
     let legal = as_legal c.loop.port.client d c.loop.reader c.poll.new.self c.in_ok-poll.field-0 (polls.Done c.in-Done.answer) c.loop.invariant.client c.in-Done.is c.in_ok-poll.ensures.legal in
-    let few : c.loop.reader.trying.calls < 4611686018427387904 = omega (arith, c.loop.invariant.few, c.loop-test.true) in
+    let few : c.loop.reader.trying.calls < 9223372036854775808 = omega (arith, c.loop.invariant.few, c.loop-test.true) in
     (reads_done c.args.reader.now c.loop.reader c.poll.new.self c.in-Done.answer a b d c.requires.shard few c.loop.invariant.so_far polled sole legal).2
 
 pub loop-preserved : goal.loop-preserved
@@ -123,21 +127,25 @@ loop-preserved g c =
     let b = g.S.Store.history c.loop.port.store in
     let d = g.S.Store.history c.poll.new.port.store in
     let sole = loan_kept b d c.poll.new.port.client c.loop.port.client 1 c.in_ok-poll.ensures.loan c.in_ok-poll.ensures.client c.loop.invariant.client in
-    let few : c.loop.reader.trying.calls < 4611686018427387904 = omega (arith, c.loop.invariant.few, c.loop-test.true) in
+    let few : c.loop.reader.trying.calls < 9223372036854775808 = omega (arith, c.loop.invariant.few, c.loop-test.true) in
     let low = c.loop.invariant.few in
     let follows = subst (λ (n : ℕ). FollowsWhere n d c.poll.new.self) c.loop.invariant.client c.in_ok-poll.ensures.follows in
     let client = c.in_ok-poll.ensures.client ∙ c.loop.invariant.client in
     let calls : g.S.Store.faults c.args.port.now.store ≤ g.S.Store.faults c.poll.new.port.store = omega (arith, c.loop.invariant.calls, c.in_ok-poll.ensures.faults) in
     elim c.match-branch-2.branch [
       | in-Busy w ↦
-          let k = reads_wait c.args.reader.now c.loop.reader c.poll.new.self a b d c.loop.invariant.so_far (as_polled c.loop.port.client b d c.loop.reader c.poll.new.self c.in_ok-poll.field-0 polls.Busy c.loop.invariant.client w.in-Busy.is c.in_ok-poll.ensures.polled) in
-          let same = k.1 in
-          record { so_far = k.0; sound = c.in_ok-poll.ensures.sound; follows = follows; few = omega arith; client = client; calls = calls }
+          let missed : 0 < 0 = c.in_ok-poll.ensures.busy (ap Ok w.in-Busy.is) in
+          absurd (omega (arith, missed))
       | in-More w ↦
           let k = reads_on c.args.reader.now c.loop.reader c.poll.new.self a b d c.requires.shard few c.loop.invariant.so_far (as_polled c.loop.port.client b d c.loop.reader c.poll.new.self c.in_ok-poll.field-0 polls.More c.loop.invariant.client w.in-More.is c.in_ok-poll.ensures.polled) sole in
           let same = k.1 in
-          record { so_far = k.0; sound = c.in_ok-poll.ensures.sound; follows = follows; few = omega arith; client = client; calls = calls }
+          let kept = as_cost c.loop.port.client b d c.loop.reader c.poll.new.self c.in_ok-poll.field-0 polls.More c.loop.invariant.client w.in-More.is c.in_ok-poll.ensures.cost 3 (omega arith) c.loop.invariant.cost in
+          let cost = subst (λ (s : ShardId). WhereLawful s d (Backwards (CostAt 3 1 c.poll.new.self))) (c.loop.invariant.so_far.same.shard ∙ sym k.0.same.shard) kept in
+          record { so_far = k.0; sound = c.in_ok-poll.ensures.sound; follows = follows; cost = cost; few = omega (arith, same, low); client = client; calls = calls }
     ]
 
 pub returns-clause-told : goal.returns-clause-told
-returns-clause-told g c = reads_stop c.args.reader.now c.loop.reader (g.S.Store.history c.args.port.now.store) (g.S.Store.history c.loop.port.store) c.loop.invariant.so_far
+returns-clause-told g c =
+    let a = g.S.Store.history c.args.port.now.store in
+    let b = g.S.Store.history c.loop.port.store in
+    reads_end c.args.reader.now c.loop.reader a b c.requires.shard c.loop.invariant.sound (omega (arith, c.loop.invariant.few, c.loop-test.false, c.loop.auto.counter-end)) c.loop.invariant.so_far c.loop.invariant.follows c.loop.invariant.cost

@@ -1,6 +1,4 @@
-use Rattle.std.proofs.Common.{refl, Some}
 use Rattle.history_core.specs.declared.asked.Asked.TheVariants as asks
-use Rattle.state_core.specs.declared.transitions.Transition.TheVariants as steps
 use Rattle.read_client.proofs.Begun.{read_follows}
 use Rattle.read_client.proofs.readers.Reader.begin_next.Goals as goal
 

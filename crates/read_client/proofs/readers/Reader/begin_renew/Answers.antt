@@ -1,4 +1,4 @@
-use Rattle.std.proofs.Common.{refl, Some}
+use Rattle.std.proofs.Common.{refl}
 use Rattle.history_core.specs.declared.asked.Asked.TheVariants as asks
 use Rattle.state_core.specs.declared.transitions.Transition.TheVariants as steps
 use Rattle.read_client.proofs.Begun.{change_follows}

@@ -1,8 +1,3 @@
-use Rattle.std.proofs.Common.{refl, subst, sym}
-use Rattle.load_core.specs.Getting as getting
-use Rattle.load_core.specs.Trying as trying
-use Rattle.read_client.specs.declared.readers.Reader.{Reader}
-use Rattle.read_client.specs.Reading.{IsSound, after_poll}
 use Rattle.read_client.proofs.Sound.{settled_sound, wants_sound}
 use Rattle.read_client.proofs.readers.Reader.react.Goals as goal
 
