@@ -1,6 +1,6 @@
 -- The newest calls of a client, over a store that nobody else calls: none failed, and nobody committed among them. Entries go newest
 -- first.
-use Rattle.std.proofs.Common.{◌≡◌, ◌≢◌, ℕ, zero, suc, ◌+◌, Option, Some, None, List, ◌∷◌, refl, sym, ap, subst, ◌∙◌, arith}
+use Rattle.std.proofs.Common.{◌≡◌, ◌≢◌, ℕ, suc, ◌+◌, Option, Some, None, List, ◌∷◌, refl, sym, ap, subst, ◌∙◌, arith}
 use Rattle.std.specs.Prelude.{IfSome, reverse}
 use Rattle.std.proofs.lemmas.Bool.{eq-eqb}
 use Rattle.update_core.specs.declared.updates.Update.{Update}

@@ -5,7 +5,7 @@ ghost use Rattle.store_core.specs.Ports.{Sees, GrowsByOthers, IsTurnFor, IsFailu
 ghost use Rattle.persist_app.specs.Goings.{others_until};
 
 use std::alloc::AllocError;
-use store_core::{Call, Port, Store, Turn};
+use store_core::{Call, DirectPort, Port, Store, Turn};
 
 /// A store that nobody else calls, and the client that calls it next.
 #[derive(Drop)]
@@ -39,7 +39,6 @@ impl<S: Store> Port for SolePort<S> {
         ensures faults { S.faults self.old.store ≤ S.faults self.new.store }
         ensures loan { Some (others_until (S.history self.new.store) self.new.client) ≡ Some (others_until (S.history self.old.store) self.old.client) }
     {
-        let reply = self.store.call(self.client, call)?;
-        Ok(Turn::Reply(reply))
+        DirectPort::new(&mut self.store, self.client).try_call(call)
     }
 }
