@@ -18,6 +18,7 @@ pub mod ReadLegality
 pub mod Replied
 pub mod Sound
 pub mod Staying
+pub mod SparedFronts
 pub mod StepParts
 pub mod Stretch
 pub mod Told

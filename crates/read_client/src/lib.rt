@@ -1,6 +1,7 @@
 //! A reader of a shard: a client that joins, reads the collection at a time or step by step, and leaves, polled over any port.
 #![tactic(auto)]
 
+pub mod laws;
 mod questions;
 mod readers;
 mod stages;
