@@ -146,9 +146,9 @@ fn feeds_are_answered(rt: HostRuntime) -> Result<(), Fail> {
         ),
         (
             "closed for good",
-            b"append 0 closed\n18446744073709551615 1 z\n.\nsnapshot 18446744073709551615\nappend 0 closed\n.\n".as_slice(),
+            b"append 0 closed\n18446744073709551615 1 z\n.\nsnapshot 18446744073709551615\nlisten 0\nlisten 18446744073709551615\nappend 0 closed\n.\n".as_slice(),
             0,
-            b"ok\n1 z\n.\nmismatch closed\n".as_slice(),
+            b"ok\n1 z\n.\n18446744073709551615 1 z\nupto closed\nended\nmismatch closed\n".as_slice(),
         ),
         (
             "a difference of 0 is a row, and adds nothing",
