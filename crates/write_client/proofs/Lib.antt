@@ -17,6 +17,7 @@ pub mod Reasons
 pub mod Replied
 pub mod Rows
 pub mod Sounding
+pub mod Sparing
 pub mod Spendings
 pub mod Stepping
 pub mod Told
