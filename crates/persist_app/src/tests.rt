@@ -8,11 +8,12 @@ use crate::sessions::Session;
 use crate::sole_ports::SolePort;
 use causes::NumberList;
 use feed_text::{Feed, FeedLine, MemSink, MemSource, RunReply, parse_feed, print_reply};
+use state_core::{Transition, decode_version};
 use std::alloc::{AllocError, Global};
 use std::test::Fail;
 use store_core::{
-    BlobList, Bytes, BytesList, Call, Entry, FaultAt, FaultList, MemStore, ShardId, ShardList,
-    Store,
+    BlobList, Bytes, BytesList, Call, Entry, FaultAt, FaultList, MemStore, Reply, ShardId,
+    ShardList, Store, Version,
 };
 use update_core::Frontier;
 
@@ -286,6 +287,54 @@ fn faults_of_the_outside_are_told(rt: HostRuntime) -> Result<(), Fail> {
         assert_eq!(rt; ended, status, "{reads:?} {puts:?}");
         assert_eq!(rt; taken.as_slice(), written, "{reads:?} {puts:?}");
     }
+    Ok(())
+}
+
+// A version's transition, and how many members stand after it.
+fn version_line(alloc: Global, version: &Version) -> Result<String, Fail> {
+    let line = match decode_version(alloc, ShardId(1), version.number, version.bytes.as_slice()) {
+        Ok((state, step)) => {
+            let standing = state.members().len();
+            let word = step_word(alloc, &step)?;
+            format!(in alloc; "{word}, {standing} stand; ")?
+        }
+        Err(_) => format!(in alloc; "no version; ")?,
+    };
+    Ok(line)
+}
+
+fn step_word(alloc: Global, step: &Transition) -> Result<String, Fail> {
+    let word = match step {
+        Transition::Init => format!(in alloc; "init")?,
+        Transition::Join { now, lease, .. } => format!(in alloc; "join at {now} for {lease}")?,
+        Transition::Leave { member } => format!(in alloc; "leave {member}")?,
+        _ => format!(in alloc; "another")?,
+    };
+    Ok(word)
+}
+
+// A run's reader joins at the clock's moment with its lease, and at the end the writer leaves, and then the reader.
+#[test]
+fn both_clients_leave(rt: HostRuntime) -> Result<(), Fail> {
+    let alloc = rt.alloc();
+    let store = MemStore::new(alloc, FaultList::new(alloc));
+    let (ended, _) = ended(alloc, &run(b""), store)?;
+    let mut store = ended.store;
+    let scan = Call::Scan {
+        shard: ShardId(1),
+        from: 0,
+    };
+    let mut text = String::new(alloc);
+    if let Reply::Versions(versions) = store.call(9, &scan)? {
+        for version in versions.as_slice() {
+            let line = version_line(alloc, version)?;
+            text.push_str(&line)?;
+        }
+    }
+    assert_eq!(rt;
+        text.as_str(),
+        "init, 0 stand; join at 0 for 0, 1 stand; join at 7 for 1000000, 2 stand; leave 0, 1 stand; leave 1, 0 stand; "
+    );
     Ok(())
 }
 
