@@ -65,6 +65,7 @@ impl Sink for MemSink {
         ensures gained { IfOk result (λ n. Gains (Some self.old.bytes.items) (Some self.new.bytes.items) (take n bytes.now)) }
         ensures err { OnErr result (Some self.new.bytes.items ≡ Some self.old.bytes.items) }
         ensures cause { OnErr result (Rose self.old.faults self.new.faults) }
+        ensures sound { OnOk result (self.new.faults ≡ self.old.faults) }
         ensures later { self.old.faults ≤ self.new.faults }
 
         // It fails at each listed put; elsewhere it takes the whole piece, or is refused memory.

@@ -1,5 +1,5 @@
 // A source in memory, which fails where it is told to.
-ghost use Rattle.std.specs.Prelude.{◌≡◌, ◌↔◌, ◌<◌, ◌≤◌, Some, length, min, take, IfOk, OnErr, IsErr, Contains};
+ghost use Rattle.std.specs.Prelude.{◌≡◌, ◌↔◌, ◌<◌, ◌≤◌, Some, length, min, take, IfOk, OnErr, OnOk, IsErr, Contains};
 ghost use Rattle.causes.specs.Causes.{Counts, Rose};
 ghost use Rattle.feed_text.specs.Streams.{Takes, AtEnd};
 
@@ -63,6 +63,7 @@ impl Source for MemSource {
         ensures end { IfOk result (λ n. n ≡ 0 → AtEnd (Some (bytes_left self.old))) }
         ensures err { OnErr result (Some (bytes_left self.new) ≡ Some (bytes_left self.old)) }
         ensures cause { OnErr result (Rose self.old.faults self.new.faults) }
+        ensures sound { OnOk result (self.new.faults ≡ self.old.faults) }
         ensures later { self.old.faults ≤ self.new.faults }
         ensures counted { Counts 1 self.old.reads self.new.reads }
 

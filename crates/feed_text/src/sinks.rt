@@ -26,6 +26,7 @@ pub trait Sink {
         ensures gained { IfOk result (λ n. Gains (taken self.old) (taken self.new) (take n bytes.now)) }
         ensures err { OnErr result (taken self.new ≡ taken self.old) }
         ensures cause { OnErr result (Rose (faults self.old) (faults self.new)) }
+        ensures sound { OnOk result (faults self.new ≡ faults self.old) }
         ensures later { faults self.old ≤ faults self.new };
 }
 
@@ -34,6 +35,7 @@ pub fn put_all<Si: Sink>(sink: &mut Si, bytes: &[u8]) -> Result<(), SinkFault>
     ensures ok { OnOk result (Gains (Si.taken sink.old) (Si.taken sink.new) bytes.now) }
     ensures front { OnErr result (GainsFront (Si.taken sink.old) (Si.taken sink.new) bytes.now) }
     ensures cause { OnErr result (Rose (Si.faults sink.old) (Si.faults sink.new)) }
+    ensures sound { OnOk result (Si.faults sink.new ≡ Si.faults sink.old) }
     ensures later { Si.faults sink.old ≤ Si.faults sink.new }
 {
     let mut rest = bytes;

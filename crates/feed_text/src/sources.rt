@@ -1,5 +1,5 @@
 // Where bytes come from.
-ghost use Rattle.std.specs.Prelude.{◌≡◌, ◌<◌, ◌≤◌, ℕ, Option, List, length, take, IfOk, OnErr};
+ghost use Rattle.std.specs.Prelude.{◌≡◌, ◌<◌, ◌≤◌, ℕ, Option, List, length, take, IfOk, OnErr, OnOk};
 ghost use Rattle.causes.specs.Causes.{Counts, Rose};
 ghost use Rattle.feed_text.specs.Streams.{Takes, AtEnd};
 
@@ -30,6 +30,7 @@ pub trait Source {
         ensures end { IfOk result (λ n. n ≡ 0 → AtEnd (left self.old)) }
         ensures err { OnErr result (left self.new ≡ left self.old) }
         ensures cause { OnErr result (Rose (faults self.old) (faults self.new)) }
+        ensures sound { OnOk result (faults self.new ≡ faults self.old) }
         ensures later { faults self.old ≤ faults self.new }
         ensures counted { Counts 1 (reads self.old) (reads self.new) };
 }

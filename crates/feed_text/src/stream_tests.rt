@@ -88,3 +88,48 @@ fn adapters_pass_bytes_on(rt: HostRuntime) -> Result<(), Fail> {
     assert!(rt; put_all(&mut narrow, b"efgh").is_err());
     Ok(())
 }
+
+// A reader and a writer of one byte a call, each first call of two interrupted by a signal.
+#[derive(Drop)]
+struct Signalled {
+    calls: u8,
+}
+
+impl Signalled {
+    fn call(&mut self) -> io::Result<usize> {
+        self.calls = self.calls.wrapping_add(1);
+        if self.calls % 2 == 1 {
+            return Err(io::Error::from(io::ErrorKind::Interrupted));
+        }
+        Ok(1)
+    }
+}
+
+impl io::Read for Signalled {
+    fn read(&mut self, into: &mut [u8]) -> io::Result<usize> {
+        let count = self.call()?.min(into.len());
+        into[..count].fill(b'a');
+        Ok(count)
+    }
+}
+
+impl io::Write for Signalled {
+    fn write(&mut self, bytes: &[u8]) -> io::Result<usize> {
+        Ok(self.call()?.min(bytes.len()))
+    }
+
+    fn flush(&mut self) -> io::Result<()> {
+        Ok(())
+    }
+}
+
+#[test]
+fn what_a_signal_interrupts_is_made_again(rt: HostRuntime) -> Result<(), Fail> {
+    let alloc = rt.alloc();
+    let mut source = ReaderSource::new(Signalled { calls: 0 });
+    let text = read_up_to(alloc, &mut source, 3)?;
+    assert_eq!(rt; text.as_slice(), b"aaa".as_slice());
+    let mut sink = WriterSink::new(Signalled { calls: 0 });
+    put_all(&mut sink, b"abc")?;
+    Ok(())
+}

@@ -1,9 +1,10 @@
 //! The program `persist`: reads standard input, writes standard output, and ends with the command's status.
 #![tactic(auto)]
 
-use feed_text::{ReaderSource, WriterSink};
+use feed_text::{ReaderSource, WriterSink, put_all};
 use persist_app::{SystemClock, persist_plain};
 use std::alloc::Global;
+use std::io::ErrorKind;
 use std::process::ExitCode;
 use std::rt::Env;
 use std::{env, io};
@@ -18,13 +19,23 @@ fn words(rt: &(impl Env + AllocGlobal), alloc: Global) -> io::Result<Vec<String>
     Ok(words)
 }
 
-fn main(rt: HostRuntime) -> io::Result<ExitCode> {
+fn main(rt: HostRuntime) -> ExitCode {
     let alloc = rt.alloc();
-    let words = words(&rt, alloc)?;
-    let mut source = ReaderSource::new(rt.stdin());
     let mut sink = WriterSink::new(rt.stdout());
+    let words = match words(&rt, alloc) {
+        Ok(words) => words,
+        Err(error) if error.kind() == ErrorKind::OutOfMemory => {
+            return match put_all(&mut sink, b"memory\n") {
+                Ok(()) => ExitCode::from(8),
+                Err(_) => ExitCode::from(5),
+            };
+        }
+        // A word that isn't UTF-8 is none of a command's, and so are no words at all.
+        Err(_) => Vec::new(alloc),
+    };
+    let mut source = ReaderSource::new(rt.stdin());
     let mut clock = SystemClock::new(&rt);
     let store = MemStore::new(alloc, FaultList::new(alloc));
     let ended = persist_plain(alloc, &words, &mut source, &mut sink, store, &mut clock);
-    Ok(ExitCode::from(ended.status))
+    ExitCode::from(ended.status)
 }
