@@ -7,7 +7,7 @@ top=$(dirname "$here")
 work=$(mktemp -d)
 trap 'rm -rf "$work"' EXIT
 proved=$top/crates/persist_main/out/persist_main
-"$top/persist" run </dev/null
+"$top/persist" --build
 rustc --edition 2021 -O -o "$work/plain" "$here/plain.rs"
 python3 - "$proved" "$work/plain" "$here/feeds.py" <<'PYTHON'
 import subprocess, sys, time
