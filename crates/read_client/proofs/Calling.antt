@@ -1,4 +1,4 @@
--- What one poll of a reader does.
+-- Which polls come of a reply, and which call a reader makes.
 use Rattle.std.proofs.Common.{◌≡◌, ℕ, ◌+◌, true, false, Option, Some, None, Result, Ok, Err, List, [], ◌∷◌, inl, inr, refl, sym, ap, subst, ◌∙◌}
 use Rattle.std.specs.Prelude.{reverse, IsSome, IfOk, IfSome, IsSomeAnd, OnErr}
 use Rattle.std.specs.Option.{option_map}
@@ -75,7 +75,8 @@ pub data Comes (reply : Reply) (poll : Poll ReadAnswer) : Type 0 where
   fault : reply ≡ replies.Failed → poll ≡ polls.Fault → Comes reply poll
   ends : Ends poll → Comes reply poll
 
-by_verdict : (r : Reader) (asked : Asked) (tried : Tried) (reply : Reply) (poll : Poll ReadAnswer) → (tried ≡ tries.Fault → reply ≡ replies.Failed) → poll ≡ verdict r asked tried → Comes reply poll
+by_verdict : (r : Reader) (asked : Asked) (tried : Tried) (reply : Reply) (poll : Poll ReadAnswer) →
+    (tried ≡ tries.Fault → reply ≡ replies.Failed) → poll ≡ verdict r asked tried → Comes reply poll
 by_verdict r asked tries.Begun reply poll f e = more e
 by_verdict r asked tries.Again reply poll f e = more e
 by_verdict r asked tries.Goes reply poll f e = more e
@@ -85,16 +86,19 @@ by_verdict r asked (tries.Refused refusal) reply poll f e = ends (subst Ends (sy
 by_verdict r asked tries.Spent reply poll f e = ends (subst Ends (sym e) tt)
 by_verdict r asked (tries.Damaged damage) reply poll f e = ends (subst Ends (sym e) tt)
 
-tried_fault : (old : Trying) (reply : Reply) (t : Trying) (tried : Tried) → trying.Moves old reply t tried → tried ≡ tries.Fault → reply ≡ replies.Failed
+tried_fault : (old : Trying) (reply : Reply) (t : Trying) (tried : Tried) → trying.Moves old reply t tried → tried ≡ tries.Fault →
+    reply ≡ replies.Failed
 tried_fault old reply t tried moves e = go (how_moved old t reply tried moves)
   where
     comes : (r : Result (Option ShardState) Damage) → trying.ComesTo r (trying.called old) t tries.Fault → reply ≡ replies.Failed
     comes r m = absurd m
 
     go : HowMoved old t reply tried → reply ≡ replies.Failed
-    go (try_scanned vs idle answer m) = comes (newest_after old.loader.shard old.loader.cached vs) (subst (λ (k : Tried). trying.ComesTo (newest_after old.loader.shard old.loader.cached vs) (trying.called old) t k) e m)
+    go (try_scanned vs idle answer m) = comes (newest_after old.loader.shard old.loader.cached vs)
+        (subst (λ (k : Tried). trying.ComesTo (newest_after old.loader.shard old.loader.cached vs) (trying.called old) t k) e m)
     go (try_failed idle answer is now) = answer
-    go (try_cased rd next m) = let k : trying.MovesAfterCas (trying.asked (trying.called old) rd) rd reply t tries.Fault = subst (λ (k : Tried). trying.MovesAfterCas (trying.asked (trying.called old) rd) rd reply t k) e m in k.0
+    go (try_cased rd next m) = let k : trying.MovesAfterCas (trying.asked (trying.called old) rd) rd reply t tries.Fault =
+        subst (λ (k : Tried). trying.MovesAfterCas (trying.asked (trying.called old) rd) rd reply t k) e m in k.0
 
 by_look : (r : Reader) (q : Question) (look : Look) (reply : Reply) (poll : Poll ReadAnswer) → poll ≡ look_poll r q look → Comes reply poll
 by_look r q looks.Gone reply poll e = ends (subst Ends (sym e) tt)
@@ -103,7 +107,8 @@ by_look r q (looks.Answer answer) reply poll e = ends (subst Ends (sym e) tt)
 by_look r q (looks.Parts []) reply poll e = ends (subst Ends (sym e) tt)
 by_look r q (looks.Parts (k ∷ ks)) reply poll e = more e
 
-by_fetched : (old : Reader) (q : Question) (g : Getting) (fetched : Fetched) (was : Getting) (reply : Reply) (new : Reader) (poll : Poll ReadAnswer) → HowGot was reply g fetched → MovesByFetched old q g fetched new poll → Comes reply poll
+by_fetched : (old : Reader) (q : Question) (g : Getting) (fetched : Fetched) (was : Getting) (reply : Reply) (new : Reader)
+    (poll : Poll ReadAnswer) → HowGot was reply g fetched → MovesByFetched old q g fetched new poll → Comes reply poll
 by_fetched old q g fetches.More was reply new poll how m = more m.0
 by_fetched old q g fetches.Fault was reply new poll how m = fault (go how refl) m.0
   where
@@ -118,7 +123,8 @@ by_fetched old q g (fetches.Missing key) was reply new poll how m = more m.0
 by_fetched old q g (fetches.Damaged damage) was reply new poll how m = ends (subst Ends (sym m.0) tt)
 by_fetched old q g fetches.Done was reply new poll how m = ends (subst Ends (sym m.0) tt)
 
-by_read : (old : Reader) (q : Question) (reply : Reply) (new : Reader) (poll : Poll ReadAnswer) → HowRead old q reply new poll → Comes reply poll
+by_read : (old : Reader) (q : Question) (reply : Reply) (new : Reader) (poll : Poll ReadAnswer) → HowRead old q reply new poll →
+    Comes reply poll
 by_read old q reply new poll (unscanned st e p n) = fault e p
 by_read old q reply new poll (damaged vs damage st e r p n) = ends (subst Ends (sym p) tt)
 by_read old q reply new poll (scanned vs k st e r by) = by_look (holding old k) q (look_of q k (own_member old)) reply poll by.0
@@ -129,7 +135,8 @@ pub comes : (old new : Reader) (reply : Reply) (poll : Poll ReadAnswer) → Move
 comes old new reply poll moves = go (question old) moves
   where
     go : (q : Option Question) → MovesBy q old reply new poll → Comes reply poll
-    go None (t, tried, asked, m, asked_is, poll_is, new_is) = by_verdict (record old { trying = t }) asked tried reply poll (tried_fault old.trying reply t tried m) poll_is
+    go None (t, tried, asked, m, asked_is, poll_is, new_is) = by_verdict (record old { trying = t }) asked tried reply poll
+        (tried_fault old.trying reply t tried m) poll_is
     go (Some q) m = by_read (counted old) q reply new poll (how_read (counted old) q reply new poll m)
 
 -- ---- its call
@@ -145,7 +152,8 @@ asks_call r call e = go r.stage refl e
     some : (a b : Call) → Some a ≡ Some b → b ≡ a
     some a b f = cc
 
-    by_key : (k : Option PartKey) → getting.key_of r.getting ≡ k → option_map (λ (q : PartKey). calls.Get q) k ≡ Some call → r.stage ≡ stages.Get → Asks r call
+    by_key : (k : Option PartKey) → getting.key_of r.getting ≡ k → option_map (λ (q : PartKey). calls.Get q) k ≡ Some call →
+        r.stage ≡ stages.Get → Asks r call
     by_key None is f st = absurd (let bad : None ≡ Some call = f in cc)
     by_key (Some k) is f st = gets k st is (some (calls.Get k) call f)
 
@@ -156,20 +164,24 @@ asks_call r call e = go r.stage refl e
 
 -- a transition that is tried makes its own call
 pub tries_call : (r : Reader) (call : Call) → question r ≡ None → call_of r ≡ Some call → call ≡ trying.call_of r.trying
-tries_call r call none e = let f : Some (trying.call_of r.trying) ≡ Some call = subst (λ (q : Option Question). call_by r q ≡ Some call) none e in cc
+tries_call r call none e = let f : Some (trying.call_of r.trying) ≡ Some call =
+    subst (λ (q : Option Question). call_by r q ≡ Some call) none e in cc
 
 pub reads_call : (r : Reader) (call : Call) (q : Question) → question r ≡ Some q → call_of r ≡ Some call → Asks r call
 reads_call r call q some e = asks_call r call (subst (λ (p : Option Question). call_by r p ≡ Some call) some e)
 
 -- a Cas that is ready carries the transition
-carries_ready : (l : Loading) (x : Transition) (cached : Option ShardState) (r : Ready) → IsOf l.shard r.after → trying.IsReadyAfter l.shard cached x r → OnlyCarries l.shard x (calls.Cas l.shard r.expected r.bytes)
-carries_ready l x None r own first = subst (λ (n : Option ℕ). OnlyCarries l.shard x (calls.Cas l.shard n r.bytes)) (sym first.expected_is) tt
+carries_ready : (l : Loading) (x : Transition) (cached : Option ShardState) (r : Ready) → IsOf l.shard r.after →
+    trying.IsReadyAfter l.shard cached x r → OnlyCarries l.shard x (calls.Cas l.shard r.expected r.bytes)
+carries_ready l x None r own first = subst (λ (n : Option ℕ). OnlyCarries l.shard x (calls.Cas l.shard n r.bytes)) (sym first.expected_is)
+    tt
 carries_ready l x (Some s) r own ready =
     let same : s.shard ≡ l.shard = sym (shard_stays s r.after x ready.applies) ∙ own.shard_is in
     subst (λ (n : Option ℕ). OnlyCarries l.shard x (calls.Cas l.shard n r.bytes)) (sym ready.expected_is)
     (refl, (r.after, subst (λ (d : ShardId). version_in d (s.number + 1) r.bytes ≡ Some (r.after, x)) same ready.written))
 
-carries_next : (t : Trying) (next : Next) → trying.IsReadyNext t.loader t.step next → OnlyCarries t.loader.shard t.step (trying.call_by t.loader next)
+carries_next : (t : Trying) (next : Next) → trying.IsReadyNext t.loader t.step next →
+    OnlyCarries t.loader.shard t.step (trying.call_by t.loader next)
 carries_next t nexts.Attempt h = tt
 carries_next t nexts.Scan h = tt
 carries_next t (nexts.Cas r) h = carries_ready t.loader t.step t.loader.cached r h.1 h.0
@@ -178,19 +190,15 @@ pub carries : (r : Reader) (call : Call) → IsSound r → call_of r ≡ Some ca
 carries r call s e = go (question r) refl
   where
     go : (q : Option Question) → question r ≡ q → OnlyCarries (shard_of r) r.trying.step call
-    go None none = subst (OnlyCarries (shard_of r) r.trying.step) (sym (tries_call r call none e)) (carries_next r.trying r.trying.next s.trying)
+    go None none = subst (OnlyCarries (shard_of r) r.trying.step) (sym (tries_call r call none e))
+        (carries_next r.trying r.trying.next s.trying)
     go (Some q) some = by (reads_call r call q some e)
       where
         by : Asks r call → OnlyCarries (shard_of r) r.trying.step call
         by (scans st is) = subst (OnlyCarries (shard_of r) r.trying.step) (sym is) tt
         by (gets key st at is) = subst (OnlyCarries (shard_of r) r.trying.step) (sym is) tt
 
--- ---- over fronts
-
--- what holds of each told and lawful front
-pub where_so : (shard : ShardId) (front : Option History) (P Q : Stored → List Entry → List Update → Type 0) → ((start : Stored) (es : List Entry) (list : List Update) → P start es list → Q start es list) → WhereLawful shard front (Backwards P) → WhereLawful shard front (Backwards Q)
-where_so shard None P Q f h = tt
-where_so shard (Some k) P Q f h = λ list st l. f k.start (reverse k.trail) list (h list st l)
+-- ---- what its call is allowed by
 
 -- what a reader holds of its step
 pub steps_free : (r : Reader) → IsOpen r → IsSound r → question r ≡ None → (own : List Answered) → Holds own r.trying.step
@@ -199,7 +207,8 @@ steps_free r is_open s none own = go r.asked s.asked is_open none
     so : (x : Transition) → r.trying.step ≡ x → Holds own x → Holds own r.trying.step
     so x e h = subst (Holds own) (sym e) h
 
-    of_member : (m : Option ℕ) (f : ℕ → Transition) → ((member : ℕ) → Holds own (f member)) → IsSomeAnd m (λ member. r.trying.step ≡ f member) → Holds own r.trying.step
+    of_member : (m : Option ℕ) (f : ℕ → Transition) → ((member : ℕ) → Holds own (f member)) →
+        IsSomeAnd m (λ member. r.trying.step ≡ f member) → Holds own r.trying.step
     of_member None f h e = absurd e
     of_member (Some member) f h e = so (f member) e (h member)
 
@@ -210,7 +219,8 @@ steps_free r is_open s none own = go r.asked s.asked is_open none
     some_listens : (l : Option (Option ℕ)) (f : Option ℕ) → l ≡ Some f → IsSome l
     some_listens l f e = subst (λ (k : Option (Option ℕ)). IsSome k) (sym e) refl
 
-    go : (a : Option Asked) → IfSome a (λ asked. AsksAs (shard_of r) r.member r.trying.step r.listen asked) → IsSome a → question_of a r.listen ≡ None → Holds own r.trying.step
+    go : (a : Option Asked) → IfSome a (λ asked. AsksAs (shard_of r) r.member r.trying.step r.listen asked) → IsSome a →
+        question_of a r.listen ≡ None → Holds own r.trying.step
     go None h o e = absurd (let bad : false ≡ true = o in cc)
     go (Some (asks.OpenReader shard now lease)) h o e = so (Join AsReader now lease) h.2 tt
     go (Some (asks.Advance to)) h o e = of_member r.member (λ member. Advance member to) (λ member. tt) h
@@ -228,156 +238,17 @@ holds_next nexts.Attempt x own h = tt
 holds_next nexts.Scan x own h = tt
 holds_next (nexts.Cas r) x own h = h
 
-pub allowed : (client : ℕ) (r : Reader) (call : Call) (start : Stored) (es : List Entry) → IsOpen r → IsSound r → call_of r ≡ Some call → FollowsTrying r.trying (mine_back start es client) → Allows (mine_back start es client) call
+pub allowed : (client : ℕ) (r : Reader) (call : Call) (start : Stored) (es : List Entry) → IsOpen r → IsSound r → call_of r ≡ Some call →
+    FollowsTrying r.trying (mine_back start es client) → Allows (mine_back start es client) call
 allowed client r call start es is_open s e f = go (question r) refl
   where
     go : (q : Option Question) → question r ≡ q → Allows (mine_back start es client) call
     go None none =
         subst (Allows (mine_back start es client)) (sym (tries_call r call none e))
-        (tried_allowed r.trying (mine_back start es client) s.trying f (holds_next r.trying.next r.trying.step (mine_back start es client) (steps_free r is_open s none (mine_back start es client))))
+        (tried_allowed r.trying (mine_back start es client) s.trying f
+            (holds_next r.trying.next r.trying.step (mine_back start es client) (steps_free r is_open s none (mine_back start es client))))
     go (Some q) some = by (reads_call r call q some e)
       where
         by : Asks r call → Allows (mine_back start es client) call
         by (scans st is) = subst (Allows (mine_back start es client)) (sym is) tt
         by (gets key st at is) = subst (Allows (mine_back start es client)) (sym is) tt
-
--- ---- preparing
-
--- what preparing leaves of a reader
-pub record Readied (old ready : Reader) : Type 0 where
-  pub trying : Trying
-  pub ready_is : ready ≡ record old { trying = trying }
-  pub loader : trying.loader ≡ old.trying.loader
-  pub step : trying.step ≡ old.trying.step
-  pub calls : trying.calls ≡ old.trying.calls
-
-pub readied : (old ready : Reader) → Prepares old ready → Readied old ready
-readied old ready p = go (question old) p
-  where
-    go : (q : Option Question) → PreparesBy q old ready → Readied old ready
-    go None (t, m, e) = let k = prepared old.trying t m in record { trying = t; ready_is = e; loader = k.loader; step = k.step; calls = k.calls }
-    go (Some q) e = record { trying = old.trying; ready_is = e; loader = refl; step = refl; calls = refl }
-
-pub readied_open : (old ready : Reader) → Prepares old ready → IsOpen old → IsOpen ready
-readied_open old ready p o = let k = readied old ready p in subst (λ (r : Reader). IsOpen r) (sym k.ready_is) o
-
-pub readied_trying : (old ready : Reader) (own : List Answered) → Prepares old ready → FollowsTrying old.trying own → FollowsTrying ready.trying own
-readied_trying old ready own p f = go (question old) p
-  where
-    go : (q : Option Question) → PreparesBy q old ready → FollowsTrying ready.trying own
-    go None (t, m, e) = subst (λ (r : Reader). FollowsTrying r.trying own) (sym e) (prepared_follows old.trying t own f m)
-    go (Some q) e = subst (λ (r : Reader). FollowsTrying r.trying own) (sym e) f
-
--- ---- what a poll does
-
-module _ (client : ℕ) (front now : Option History) (old ready : Reader) (is_open : IsOpen old) (s : IsSound ready) (f : FollowsWhere client front old) (prepares : Prepares old ready) (call : Call) (call_is : call_of ready ≡ Some call) (reply : Reply)
-    (gained : GainsWhereTold client front now call reply) where
-  shard_same : shard_of ready ≡ shard_of old
-  shard_same = let k = readied old ready prepares in ap (λ (r : Reader). shard_of r) k.ready_is ∙ ap (λ (l : Loading). l.shard) k.loader
-
-  calls_same : ready.trying.calls ≡ old.trying.calls
-  calls_same = let k = readied old ready prepares in ap (λ (r : Reader). r.trying.calls) k.ready_is ∙ k.calls
-
-  step_same : ready.trying.step ≡ old.trying.step
-  step_same = let k = readied old ready prepares in ap (λ (r : Reader). r.trying.step) k.ready_is ∙ k.step
-
-  carried : OnlyCarries (shard_of old) old.trying.step call
-  carried = subst (λ (x : Transition). OnlyCarries (shard_of old) x call) step_same (subst (λ (d : ShardId). OnlyCarries d ready.trying.step call) shard_same (carries ready call s call_is))
-
-  may : WhereLawful (shard_of old) front (Backwards (λ start es list. Allows (mine_back start es client) call))
-  may = where_so (shard_of old) front (λ start es list. Follows client old start es) (λ start es list. Allows (mine_back start es client) call)
-      (λ start es list h. allowed client ready call start es (readied_open old ready prepares is_open) s call_is (readied_trying old ready (mine_back start es client) prepares h.trying)) f
-
-  -- what it comes to
-  made : (new : Reader) (poll : Poll ReadAnswer) → Moves ready reply new poll → Calls client front now old new poll
-  made new poll moves = record {
-    ready = ready;
-    prepares = prepares;
-    call = call;
-    call_is = call_is;
-    carries = carried;
-    allowed = may;
-    reply = reply;
-    gains = gained;
-    moves = moves;
-    failed = failed (comes ready new reply poll moves);
-    answered = λ more. goes_answered ready new reply (subst (λ (p : Poll ReadAnswer). Moves ready reply new p) more moves);
-    shown = λ refused. subst (λ (d : ShardId). IsShown d call reply) shard_same (refusal_shown ready new call reply poll call_is moves refused);
-    counted = counted_more ready new reply poll moves ∙ ap trying.more calls_same;
-    effect = subst (λ (x : Transition). Effect (shard_of old) x call reply poll) step_same (subst (λ (d : ShardId). Effect d ready.trying.step call reply poll) shard_same (effect_of ready new call reply poll s call_is moves));
-  }
-    where
-      failed : Comes reply poll → poll ≡ polls.Fault → reply ≡ replies.Failed
-      failed (more e) h = absurd (let bad : polls.More ≡ polls.Fault = sym e ∙ h in cc)
-      failed (fault r e) h = r
-      failed (ends o) h = absurd (subst Ends h o)
-
-  pub polled : (new : Reader) (r : Result (Poll ReadAnswer) AllocError) → IfOk r (λ poll. Moves ready reply new poll) → IfOk r (λ poll. Polled client front now old new poll)
-  polled new (Err e) h = tt
-  polled new (Ok polls.Busy) h = absurd (no (comes ready new reply polls.Busy h))
-    where
-      no : Comes reply polls.Busy → ⊥
-      no (more e) = let bad : polls.Busy ≡ polls.More = e in cc
-      no (fault r e) = let bad : polls.Busy ≡ polls.Fault = e in cc
-      no (ends o) = o
-  polled new (Ok polls.More) h = made new polls.More h
-  polled new (Ok polls.Fault) h = made new polls.Fault h
-  polled new (Ok (polls.Damaged damage)) h = made new (polls.Damaged damage) h
-  polled new (Ok polls.Spent) h = made new polls.Spent h
-  polled new (Ok (polls.Done answer)) h = made new (polls.Done answer) h
-
-  -- want of memory after the reply
-  pub unpolled : (new : Reader) (r : Result (Poll ReadAnswer) AllocError) → OnErr r (Wants ready new) → OnErr r (Unpolled client front now old new)
-  unpolled new (Ok poll) h = tt
-  unpolled new (Err e) h = go (question ready) refl h
-    where
-      go : (q : Option Question) → question ready ≡ q → WantsBy q ready new → Unpolled client front now old new
-      go None none (idle, is) =
-          let call_was : call ≡ scan_of ready.trying.loader = tries_call ready call none call_is ∙ scan_call ready.trying idle in
-          let z : Reader = record ready { trying = trying.called ready.trying } in
-          let next : call_of z ≡ Some (scan_of ready.trying.loader) = ap (call_by z) none in
-          inr (ready, call, reply, prepares, call_is, subst IsReading (sym call_was) tt, gained, ap (λ (r : Reader). call_of r) is ∙ next ∙ ap Some (sym call_was))
-      go (Some q) some is = by (reads_call ready call q some call_is)
-        where
-          again : (stage : Stage) → read_call (counted ready) stage ≡ read_call ready stage
-          again stages.Scan = refl
-          again stages.Get = refl
-          again (stages.Check key) = refl
-
-          same : call_of (counted ready) ≡ call_of ready
-          same = ap (call_by (counted ready)) some ∙ again ready.stage ∙ ap (call_by ready) (sym some)
-
-          reading : Asks ready call → IsReading call
-          reading (scans st e) = subst IsReading (sym e) tt
-          reading (gets key st at e) = subst IsReading (sym e) tt
-
-          by : Asks ready call → Unpolled client front now old new
-          by a = inr (ready, call, reply, prepares, call_is, reading a, gained, ap (λ (r : Reader). call_of r) is ∙ same ∙ call_is)
-
-  -- it is never Busy, and Fault only where the reply was Failed
-  pub not_busy : (new : Reader) (r : Result (Poll ReadAnswer) AllocError) → IfOk r (λ poll. Moves ready reply new poll) → r ≡ Ok polls.Busy → ⊥
-  not_busy new r h e = no (comes ready new reply polls.Busy (subst (λ (k : Result (Poll ReadAnswer) AllocError). IfOk k (λ poll. Moves ready reply new poll)) e h))
-    where
-      no : Comes reply polls.Busy → ⊥
-      no (more e) = let bad : polls.Busy ≡ polls.More = e in cc
-      no (fault r e) = let bad : polls.Busy ≡ polls.Fault = e in cc
-      no (ends o) = o
-
-  pub fault_failed : (new : Reader) (r : Result (Poll ReadAnswer) AllocError) → IfOk r (λ poll. Moves ready reply new poll) → r ≡ Ok polls.Fault → reply ≡ replies.Failed
-  fault_failed new r h e = go (comes ready new reply polls.Fault (subst (λ (k : Result (Poll ReadAnswer) AllocError). IfOk k (λ poll. Moves ready reply new poll)) e h))
-    where
-      go : Comes reply polls.Fault → reply ≡ replies.Failed
-      go (more e) = absurd (let bad : polls.Fault ≡ polls.More = e in cc)
-      go (fault r e) = r
-      go (ends o) = absurd o
-
--- ---- what a port tells
-
-pub gained_of : (client : ℕ) (front now : Option History) (call : Call) (t : Turn) (reply : Reply) → t ≡ turns.Reply reply → Sees client front now call t → GainsWhereTold client front now call reply
-gained_of client front now call t reply e h = subst (Sees client front now call) e h
-
-pub same_of : (client : ℕ) (front now : Option History) (call : Call) (t : Turn) → t ≡ turns.Busy → Sees client front now call t → now ≡ front
-same_of client front now call t e h = subst (Sees client front now call) e h
-
-pub rose_of : (A : Type 0) (t : Turn) (reply : Reply) → t ≡ turns.Reply reply → (IsFailure t → A) → reply ≡ replies.Failed → A
-rose_of A t reply e cause failed = cause (subst IsFailure (sym e) failed)

@@ -1,5 +1,5 @@
 use Rattle.read_client.proofs.Sound.{settled_sound, wants_sound}
-use Rattle.read_client.proofs.readers.Reader.react.Goals as goal
+use Rattle.read_client.proofs.machines.ReaderMachine.react.Goals as goal
 
 pub returns-in_err-poll-clause-sound : goal.returns-in_err-poll-clause-sound
 returns-in_err-poll-clause-sound c = wants_sound c.args.self.now c.reaction.new.self c.requires.open c.requires.sound c.in_err-poll.ensures.memory
