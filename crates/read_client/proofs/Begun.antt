@@ -1,6 +1,6 @@
 -- A reader that has begun a command follows, and is within the bound on its calls.
 use Rattle.std.proofs.Common.{◌≡◌, ℕ, ◌≤◌, Option, Some, None, List, [], ◌∷◌, inl, inr, refl, sym, subst, arith}
-use Rattle.std.specs.Prelude.{⊤, reverse, IfSome}
+use Rattle.std.specs.Prelude.{⊤, IfSome}
 use Rattle.update_core.specs.declared.updates.Update.{Update}
 use Rattle.store_core.specs.declared.shards.ShardId.{ShardId}
 use Rattle.store_core.specs.declared.calls.Call.{Call}

@@ -1,9 +1,7 @@
 -- Which polls come of a reply, and which call a reader makes.
-use Rattle.std.proofs.Common.{◌≡◌, ℕ, ◌+◌, true, false, Option, Some, None, Result, Ok, Err, List, [], ◌∷◌, inl, inr, refl, sym, ap, subst, ◌∙◌}
-use Rattle.std.specs.Prelude.{reverse, IsSome, IfOk, IfSome, IsSomeAnd, OnErr}
+use Rattle.std.proofs.Common.{◌≡◌, ℕ, ◌+◌, true, false, Option, Some, None, Result, List, [], ◌∷◌, inl, inr, refl, sym, subst, ◌∙◌}
+use Rattle.std.specs.Prelude.{IsSome, IfSome, IsSomeAnd}
 use Rattle.std.specs.Option.{option_map}
-use Rattle.std.specs.declared.alloc.AllocError.{AllocError}
-use Rattle.update_core.specs.declared.updates.Update.{Update}
 use Rattle.update_core.specs.Frontiers.{after}
 use Rattle.store_core.specs.declared.shards.ShardId.{ShardId}
 use Rattle.store_core.specs.declared.part_keys.PartKey.{PartKey}
@@ -11,12 +9,9 @@ use Rattle.store_core.specs.declared.calls.Call.{Call}
 use Rattle.store_core.specs.declared.calls.Call.TheVariants as calls
 use Rattle.store_core.specs.declared.replies.Reply.{Reply}
 use Rattle.store_core.specs.declared.replies.Reply.TheVariants as replies
-use Rattle.store_core.specs.declared.turns.Turn.{Turn}
-use Rattle.store_core.specs.declared.turns.Turn.TheVariants as turns
 use Rattle.store_core.specs.declared.entries.Entry.{Entry}
 use Rattle.store_core.specs.Stores.{Stored}
-use Rattle.store_core.specs.Histories.{History}
-use Rattle.store_core.specs.Ports.{Answered, GainsWhereTold, IsFailure, Sees}
+use Rattle.store_core.specs.Ports.{Answered}
 use Rattle.store_core.specs.Newest.{mine_back}
 use Rattle.state_core.specs.declared.kinds.Kind.TheVariants.{Reader as AsReader}
 use Rattle.state_core.specs.declared.transitions.Transition.{Transition}
@@ -42,14 +37,12 @@ use Rattle.load_core.specs.declared.tries.Tried.{Tried}
 use Rattle.load_core.specs.declared.tries.Tried.TheVariants as tries
 use Rattle.load_core.specs.declared.tryings.Trying.{Trying}
 use Rattle.load_core.specs.Following.{FollowsTrying, HoldsNext}
-use Rattle.load_core.specs.Effects.{IsShown}
-use Rattle.load_core.specs.Fronts.{Backwards, WhereLawful}
 use Rattle.load_core.specs.Getting as getting
 use Rattle.load_core.specs.Loading.{IsOf, Loading, newest_after, scan_of}
 use Rattle.load_core.specs.Runs.{OnlyCarries}
 use Rattle.load_core.specs.Trying as trying
-use Rattle.load_core.proofs.Following.{prepared_follows, tried_allowed}
-use Rattle.load_core.proofs.Outcomes.{HowMoved, scanned as try_scanned, failed as try_failed, cased as try_cased, how_moved, scan_call}
+use Rattle.load_core.proofs.Following.{tried_allowed}
+use Rattle.load_core.proofs.Outcomes.{HowMoved, scanned as try_scanned, failed as try_failed, cased as try_cased, how_moved}
 use Rattle.read_client.specs.declared.questions.Look.{Look}
 use Rattle.read_client.specs.declared.questions.Look.TheVariants as looks
 use Rattle.read_client.specs.declared.questions.Question.{Question}
@@ -58,12 +51,7 @@ use Rattle.read_client.specs.declared.readers.Reader.{Reader}
 use Rattle.read_client.specs.declared.stages.Stage.{Stage}
 use Rattle.read_client.specs.declared.stages.Stage.TheVariants as stages
 use Rattle.read_client.specs.Asking.{look_of, question_of, step_question}
-use Rattle.read_client.specs.Following.{Follows, FollowsWhere}
-use Rattle.read_client.specs.Polling.{Calls, Effect, IsReading, Polled, Unpolled}
-use Rattle.read_client.specs.Reading.{AsksAs, IsOpen, IsSound, Moves, MovesBy, MovesByFetched, Prepares, PreparesBy, Wants, WantsBy, call_by, call_of, counted, holding, look_poll, own_member, question, read_call, shard_of, verdict}
-use Rattle.read_client.proofs.Effects.{counted_more, effect_of}
-use Rattle.read_client.proofs.Replied.{goes_answered, refusal_shown}
-use Rattle.read_client.proofs.Moving.{prepared}
+use Rattle.read_client.specs.Reading.{AsksAs, IsOpen, IsSound, Moves, MovesBy, MovesByFetched, call_by, call_of, counted, holding, look_poll, own_member, question, read_call, shard_of, verdict}
 use Rattle.read_client.proofs.HowRead.{IsScanStage, HowGot, gains, fails, misses, spoilt, heavy, HowRead, unscanned, damaged, scanned, checked, got, how_read}
 use Rattle.read_client.proofs.Sound.{Ends, refused_ends, missing_ends}
 
@@ -246,7 +234,7 @@ allowed client r call start es is_open s e f = go (question r) refl
     go None none =
         subst (Allows (mine_back start es client)) (sym (tries_call r call none e))
         (tried_allowed r.trying (mine_back start es client) s.trying f
-            (holds_next r.trying.next r.trying.step (mine_back start es client) (steps_free r is_open s none (mine_back start es client))))
+        (holds_next r.trying.next r.trying.step (mine_back start es client) (steps_free r is_open s none (mine_back start es client))))
     go (Some q) some = by (reads_call r call q some e)
       where
         by : Asks r call → Allows (mine_back start es client) call

@@ -2,19 +2,17 @@
 use Rattle.std.proofs.Common.{◌≡◌, ℕ, Option, Some, None, List, ◌∷◌, ◌++◌, refl, sym, ap, subst, ◌∙◌, arith}
 use Rattle.std.specs.Prelude.{IsSome}
 use Rattle.update_core.specs.declared.updates.Update.{Update}
-use Rattle.store_core.specs.declared.shards.ShardId.{ShardId}
 use Rattle.store_core.specs.declared.calls.Call.{Call}
 use Rattle.store_core.specs.declared.replies.Reply.{Reply}
 use Rattle.store_core.specs.declared.replies.Reply.TheVariants as replies
 use Rattle.store_core.specs.declared.entries.Entry.{Entry}
 use Rattle.store_core.specs.Stores.{Stored}
-use Rattle.state_core.specs.declared.transitions.Transition.{Transition}
 use Rattle.history_core.specs.declared.asked.Asked.{Asked}
 use Rattle.history_core.specs.declared.read_answers.ReadAnswer.{ReadAnswer}
 use Rattle.load_core.specs.declared.polls.Poll.{Poll}
 use Rattle.load_core.specs.declared.polls.Poll.TheVariants as polls
 use Rattle.load_core.specs.declared.tryings.Trying.{Trying}
-use Rattle.load_core.specs.Loading.{Loading, scan_of}
+use Rattle.load_core.specs.Loading.{scan_of}
 use Rattle.load_core.specs.Trying as trying
 use Rattle.load_core.proofs.Outcomes.{scan_call}
 use Rattle.machine_core.specs.Machines.{CostPoll, Ending, GoesOn, IsReading, Keeps}
@@ -48,8 +46,14 @@ not_open o e is = let bad : Rattle.std.specs.Prelude.false ≡ Rattle.std.specs.
 prepares_kept : (old new : Reader) → Prepares old new → kept new ≡ kept old
 prepares_kept old new p =
     let k = readied old new p in
-    ap kept k.ready_is ∙ (λ i. record { asked = old.asked; member = old.member; listen = old.listen; shard = (k.loader i).shard; step =
-        k.step i })
+    ap kept k.ready_is ∙ (λ i. record {
+      asked = old.asked;
+      member = old.member;
+      listen = old.listen;
+      shard = (k.loader i).shard;
+      step =
+          k.step i;
+    })
 
 prepares_calls : (old new : Reader) → Prepares old new → new.trying.calls ≡ old.trying.calls
 prepares_calls old new p = let k = readied old new p in ap (λ (r : Reader). r.trying.calls) k.ready_is ∙ k.calls
@@ -86,7 +90,7 @@ done_ended r new reply answer m =
     let (with, same, is) = moved_stays r new reply (polls.Done answer) m in
     subst (λ (v : Reader). Ended (kept r) answer v) (sym is)
     (subst (λ (k : Kept). Ended k answer (after_poll with (polls.Done answer))) (same_kept r with same)
-        (record { asked = refl; member = refl; listen = refl; shard = refl }))
+    (record { asked = refl; member = refl; listen = refl; shard = refl }))
 
 busy_never : (r new : Reader) (reply : Reply) → ¬ Moves r reply new polls.Busy
 busy_never r new reply m = no (comes r new reply polls.Busy m)
@@ -182,21 +186,21 @@ keeps = record {
   allowed = λ client r call start es a. allowed client r call start es a.is_open a.ready a.call_is a.follows.trying;
   follows = λ client r new call poll list start e others es a c m.
       moved_on start list client r e others es a.is_open a.ready (a.call_is ∙ ap (λ (q : Call). Some q) (sym c.call_is)) c.own c.of_others
-          c.stands c.lawful a.follows new poll m;
+      c.stands c.lawful a.follows new poll m;
   legal = λ client r new call poll list start e others es a c m.
       legal_step client r new poll list start e others es a.ready a.follows c.own (a.call_is ∙ ap (λ (q : Call). Some q) (sym c.call_is))
-          c.of_others c.stands c.lawful m;
+      c.of_others c.stands c.lawful m;
   cost = λ base client old ready new call poll list start e others es least p a c m at.
       as_old base client old ready new poll start (e ∷ (others ++ es)) list p
       (cost_poll base client ready list start e others es least a.ready a.follows.trying c.own c.of_others c.stands c.lawful new poll
-          (next_of old ready p) (a.call_is ∙ ap (λ (q : Call). Some q) (sym c.call_is)) at m);
+      (next_of old ready p) (a.call_is ∙ ap (λ (q : Call). Some q) (sym c.call_is)) at m);
   wanted_kept = wants_kept;
   wanted_counted = wants_counted;
   wanted_open = λ r new w is. subst (λ (k : Kept). IsSome k.asked) (sym (wants_kept r new w)) is;
   wanted_reads = λ r new call sound. wants_reads r new call;
   wanted_follows = λ client r new call list start e others es a c w.
       wants_on start list client r e others es a.is_open a.ready (a.call_is ∙ ap (λ (q : Call). Some q) (sym c.call_is)) c.own c.of_others
-          c.stands c.lawful a.follows new w;
+      c.stands c.lawful a.follows new w;
 }
 
 pub ending : Ending machine

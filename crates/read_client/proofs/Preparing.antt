@@ -1,39 +1,32 @@
 -- What preparing leaves of a reader.
-use Rattle.std.proofs.Common.{◌≡◌, ℕ, ◌<◌, Option, Some, None, Result, Ok, Err, List, ◌∷◌, ◌++◌, refl, sym, ap, subst, ◌∙◌}
-use Rattle.std.specs.Prelude.{IfOk, reverse}
-use Rattle.std.specs.declared.alloc.AllocError.{AllocError}
+use Rattle.std.proofs.Common.{◌≡◌, ℕ, ◌<◌, Option, Some, None, List, refl, sym, ap, subst, ◌∙◌}
+use Rattle.std.specs.Prelude.{IfSome}
 use Rattle.update_core.specs.declared.updates.Update.{Update}
 use Rattle.store_core.specs.declared.shards.ShardId.{ShardId}
-use Rattle.store_core.specs.declared.calls.Call.{Call}
-use Rattle.store_core.specs.declared.replies.Reply.{Reply}
 use Rattle.store_core.specs.declared.entries.Entry.{Entry}
-use Rattle.store_core.specs.Histories.{History}
 use Rattle.store_core.specs.Stores.{Stored}
-use Rattle.store_core.specs.Ports.{GainsWhereTold}
 use Rattle.store_core.specs.Newest.{mine_back}
 use Rattle.state_core.specs.States.{ShardState}
 use Rattle.state_core.specs.VersionReading.{most}
-use Rattle.history_core.specs.declared.read_answers.ReadAnswer.{ReadAnswer}
-use Rattle.history_core.specs.Stands.{StandsFor}
 use Rattle.load_core.specs.declared.attempts.Attempt.TheVariants as attempts
 use Rattle.load_core.specs.declared.nexts.Next.{Next}
 use Rattle.load_core.specs.declared.nexts.Next.TheVariants as nexts
-use Rattle.load_core.specs.declared.polls.Poll.{Poll}
-use Rattle.load_core.specs.declared.polls.Poll.TheVariants as polls
 use Rattle.load_core.specs.declared.tryings.Trying.{Trying}
 use Rattle.load_core.specs.Costing.{CostKept, IsPrepared}
-use Rattle.load_core.specs.Fronts.{Backwards, WhereLawful}
 use Rattle.load_core.specs.Loading.{Loading}
 use Rattle.load_core.specs.Trying as trying
-use Rattle.load_core.proofs.Gaining.{gains_backwards}
 use Rattle.load_core.proofs.Remaining.{prepared_cost}
 use Rattle.read_client.specs.declared.questions.Question.{Question}
 use Rattle.read_client.specs.declared.readers.Reader.{Reader}
-use Rattle.read_client.specs.Following.{Follows, FollowsWhere}
-use Rattle.read_client.specs.Polling.{CostAt, CostBy, CostGoesOn, CostPoll}
-use Rattle.read_client.specs.Reading.{IsSound, Moves, Prepares, PreparesBy, call_of, question, shard_of}
-use Rattle.read_client.proofs.Costs.{cost_poll}
-use Rattle.read_client.proofs.Polled.{readied, readied_trying}
+use Rattle.store_core.specs.Ports.{Answered}
+use Rattle.state_core.specs.declared.kinds.Kind.TheVariants.{Reader as AsReader}
+use Rattle.history_core.specs.Members.{JoinedAs}
+use Rattle.load_core.specs.Following.{FollowsTrying}
+use Rattle.load_core.proofs.Following.{prepared_follows}
+use Rattle.read_client.specs.Following.{Follows, FollowsStage}
+use Rattle.read_client.specs.Polling.{CostAt, CostBy, CostOver}
+use Rattle.read_client.specs.Reading.{Prepares, PreparesBy, question}
+use Rattle.read_client.proofs.Moving.{prepared}
 
 -- what preparing leaves of a reader
 pub record Readied (old ready : Reader) : Type 0 where
@@ -47,14 +40,12 @@ pub readied : (old ready : Reader) → Prepares old ready → Readied old ready
 readied old ready p = go (question old) p
   where
     go : (q : Option Question) → PreparesBy q old ready → Readied old ready
-    go None (t, m, e) = let k = prepared old.trying t m in record { trying = t; ready_is = e; loader = k.loader; step = k.step; calls =
-        k.calls }
+    go None (t, m, e) =
+        let k = prepared old.trying t m in
+        record { trying = t; ready_is = e; loader = k.loader; step = k.step; calls = k.calls }
     go (Some q) e = record { trying = old.trying; ready_is = e; loader = refl; step = refl; calls = refl }
 
-pub readied_open : (old ready : Reader) → Prepares old ready → IsOpen old → IsOpen ready
-readied_open old ready p o = let k = readied old ready p in subst (λ (r : Reader). IsOpen r) (sym k.ready_is) o
-
-pub readied_trying : (old ready : Reader) (own : List Answered) → Prepares old ready → FollowsTrying old.trying own →
+readied_trying : (old ready : Reader) (own : List Answered) → Prepares old ready → FollowsTrying old.trying own →
     FollowsTrying ready.trying own
 readied_trying old ready own p f = go (question old) p
   where
@@ -69,7 +60,7 @@ prepared_on client old ready start es p f = go (question old) refl p
     go : (q : Option Question) → question old ≡ q → PreparesBy q old ready → Follows client ready start es
     go None none (t, m, e) =
         let z : Reader = record old { trying = t } in
-        let k = Rattle.read_client.proofs.Moving.prepared old.trying t m in
+        let k = prepared old.trying t m in
         subst (λ (r : Reader). Follows client r start es) (sym e)
         (record {
           trying = subst (λ (r : Reader). FollowsTrying r.trying (mine_back start es client)) e
@@ -119,7 +110,7 @@ cost_prepared base client old ready start es list p at = λ lt.
     let k = readied old ready p in
     let calls_is = ap (λ (r : Reader). r.trying.calls) k.ready_is ∙ k.calls in
     subst (λ (q : Option Question). CostBy q base client ready start es) (sym (asks_same old ready p))
-        (go (question old) p (at (subst (λ (n : ℕ). n < most) calls_is lt)))
+    (go (question old) p (at (subst (λ (n : ℕ). n < most) calls_is lt)))
   where
     go : (q : Option Question) → PreparesBy q old ready → CostBy q base client old start es → CostBy q base client ready start es
     go None (t, m, is) kept = subst (λ (r : Reader). CostKept base client r.trying start es) (sym is)
@@ -133,4 +124,4 @@ pub over_prepared : (base client : ℕ) (old ready new : Reader) (start : Stored
 over_prepared base client old ready new start es list p h =
     let k = readied old ready p in
     subst (λ (z : Reader). CostOver base client z new start es list → CostOver base client old new start es list) (sym k.ready_is) (λ o. o)
-        h
+    h

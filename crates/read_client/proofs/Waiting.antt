@@ -1,52 +1,29 @@
 -- A reader follows past entries of others, and with no open command past a call of another machine of its client.
-use Rattle.std.proofs.Common.{◌≡◌, ◌≢◌, ℕ, ◌+◌, ◌<◌, ◌≤◌, Bool, true, false, Option, Some, None, Result, Ok, Err, List, [], ◌∷◌, ◌++◌, ◌⊎◌, inl, inr, refl, sym, ap, subst, ◌∙◌, append_assoc, arith}
-use Rattle.std.specs.Prelude.{reverse, IfOk, IfSome, IsSomeAnd, OnErr}
-use Rattle.std.specs.declared.alloc.AllocError.{AllocError}
-use Rattle.update_core.specs.declared.updates.Update.{Update}
-use Rattle.store_core.specs.declared.shards.ShardId.{ShardId}
-use Rattle.store_core.specs.declared.calls.Call.{Call}
-use Rattle.store_core.specs.declared.replies.Reply.{Reply}
+use Rattle.std.proofs.Common.{◌≡◌, ℕ, ◌+◌, ◌<◌, Option, Some, None, List, [], ◌∷◌, ◌++◌, inr, refl, sym, ap, subst, ◌∙◌, append_assoc}
+use Rattle.std.specs.Prelude.{IfSome, IsSomeAnd}
 use Rattle.store_core.specs.declared.entries.Entry.{Entry}
 use Rattle.store_core.specs.Stores.{Stored}
-use Rattle.store_core.specs.Histories.{History, reply}
-use Rattle.store_core.specs.Ports.{Answered, GainsWhereTold, GrowsByOthers, OfOthers, with_entries}
+use Rattle.store_core.specs.Histories.{reply}
+use Rattle.store_core.specs.Ports.{Answered, OfOthers, answered}
 use Rattle.store_core.specs.Newest.{mine_back, replay_back}
-use Rattle.store_core.proofs.NewestLaws.{oldest-last}
 use Rattle.state_core.specs.declared.kinds.Kind.TheVariants.{Reader as AsReader}
 use Rattle.state_core.specs.States.{ShardState}
-use Rattle.state_core.proofs.ListLemmas.{each_append}
-use Rattle.history_core.specs.declared.read_answers.ReadAnswer.{ReadAnswer}
-use Rattle.history_core.specs.Discipline.{GotAs, Hold, Lawful}
+use Rattle.history_core.specs.Discipline.{GotAs, Hold}
 use Rattle.history_core.specs.Members.{JoinedAs}
 use Rattle.history_core.specs.Placing.{IsAnsweredScan, placed}
-use Rattle.history_core.specs.Stands.{StandsFor}
-use Rattle.history_core.proofs.Gaining.{mine_others}
-use Rattle.history_core.proofs.LawfulLaws.{turned}
-use Rattle.history_core.proofs.Prefixes.{prefix_lawful}
-use Rattle.load_core.specs.declared.fetches.Fetched.{Fetched}
-use Rattle.load_core.specs.declared.fetches.Fetched.TheVariants as fetches
-use Rattle.load_core.specs.declared.gettings.Getting.{Getting}
-use Rattle.load_core.specs.declared.polls.Poll.{Poll}
-use Rattle.load_core.specs.declared.tryings.Trying.{Trying}
+use Rattle.history_core.proofs.Gaining.{mine_gained, mine_others}
 use Rattle.load_core.specs.Following.{FollowsTrying}
-use Rattle.load_core.specs.Fronts.{Backwards, WhereLawful}
-use Rattle.load_core.specs.Loading.{Loading}
-use Rattle.load_core.specs.Trying as trying
-use Rattle.load_core.proofs.Gaining.{gains_backwards}
-use Rattle.load_core.proofs.Runs.{moves_same}
-use Rattle.read_client.specs.declared.questions.Look.{Look}
-use Rattle.read_client.specs.declared.questions.Look.TheVariants as looks
 use Rattle.read_client.specs.declared.questions.Question.{Question}
 use Rattle.read_client.specs.declared.readers.Reader.{Reader}
 use Rattle.read_client.specs.declared.stages.Stage.{Stage}
 use Rattle.read_client.specs.declared.stages.Stage.TheVariants as stages
-use Rattle.read_client.specs.Following.{Follows, FollowsStage, FollowsWhere, IsRead, SinceGot, SinceMissing, SinceScan}
-use Rattle.read_client.specs.Reading.{IsOpen, IsSound, Moves, MovesBy, MovesByFetched, Prepares, PreparesBy, Wants, WantsBy, after_poll, call_of, counted, holding, look_poll, question, shard_of, staged}
-use Rattle.read_client.proofs.FollowsOn.{moved_on, wants_on}
-use Rattle.read_client.proofs.HowRead.{HowRead, unscanned, damaged, scanned, checked, got, how_read}
-use Rattle.read_client.proofs.Polled.{readied, readied_trying, where_so}
-use Rattle.read_client.proofs.Sound.{kept_trying}
+use Rattle.read_client.specs.Following.{Follows, FollowsStage, IsRead, SinceGot, SinceMissing, SinceScan}
+use Rattle.read_client.specs.Reading.{question, shard_of}
+use Rattle.read_client.proofs.HowRead.{got}
 use Rattle.read_client.proofs.Stretch.{all_others, count_others}
+use Rattle.history_core.specs.declared.asked.Asked.{Asked}
+use Rattle.load_core.proofs.Following.{shows_on, with_newest}
+use Rattle.read_client.specs.Asking.{question_of}
 
 -- ---- entries of others
 
@@ -111,7 +88,7 @@ pub follows_spared : (client : ℕ) (r : Reader) (start : Stored) (e : Entry) (o
 follows_spared client r start e others es idle own of f = record {
   trying = subst (λ (os : List Answered). FollowsTrying r.trying os) (sym gained)
       (with_newest r.trying r.trying This (mine_back start es client) f.trying refl refl
-          (shows_on This (mine_back start es client) (shard_of r) r.trying.loader.cached f.trying.shown));
+      (shows_on This (mine_back start es client) (shard_of r) r.trying.loader.cached f.trying.shown));
   member = subst (λ (os : List Answered). IfSome r.member (JoinedAs AsReader os (shard_of r))) (sym gained) (joined r.member f.member);
   reading = subst (λ (q : Option Question). IfSome q (λ q. FollowsStage client r start (e ∷ (others ++ es)) r.stage)) (sym unasked) tt;
 }

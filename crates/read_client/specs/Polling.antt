@@ -1,18 +1,13 @@
 -- What one poll of a reader does, answers and costs. Entries go newest first.
-use Rattle.std.specs.Prelude.{⊤, ◌≡◌, ◌≢◌, ◌⊎◌, ℕ, ◌+◌, ◌<◌, ◌≤◌, Option, Some, None, IfSome, List, [], ◌∷◌, length}
+use Rattle.std.specs.Prelude.{⊤, ◌≡◌, ◌⊎◌, ℕ, ◌+◌, ◌<◌, ◌≤◌, Option, Some, None, List, [], ◌∷◌, length}
 use Rattle.std.specs.List.{AllByRecursion}
 use Rattle.update_core.specs.declared.updates.Update.{Update}
 use Rattle.store_core.specs.declared.part_keys.PartKey.{PartKey}
 use Rattle.store_core.specs.declared.shards.ShardId.{ShardId}
 use Rattle.store_core.specs.declared.calls.Call.{Call}
-use Rattle.store_core.specs.declared.calls.Call.TheVariants as calls
 use Rattle.store_core.specs.declared.replies.Reply.{Reply}
-use Rattle.store_core.specs.declared.replies.Reply.TheVariants as replies
 use Rattle.store_core.specs.declared.entries.Entry.{Entry}
-use Rattle.store_core.specs.Histories.{History}
 use Rattle.store_core.specs.Stores.{Stored}
-use Rattle.store_core.specs.Ports.{GainsWhereTold, GrowsByOthers}
-use Rattle.store_core.specs.Newest.{mine_back}
 use Rattle.state_core.specs.Lists.{Among}
 use Rattle.state_core.specs.declared.transitions.Transition.{Transition}
 use Rattle.state_core.specs.VersionReading.{most}
@@ -21,22 +16,19 @@ use Rattle.history_core.specs.declared.asked.Asked.TheVariants as asks
 use Rattle.history_core.specs.declared.read_answers.ReadAnswer.{ReadAnswer}
 use Rattle.history_core.specs.declared.read_answers.ReadAnswer.TheVariants as answers
 use Rattle.history_core.specs.Costs.{failed_calls, WithinReads, read_base}
-use Rattle.history_core.specs.Discipline.{Allows, IsGot}
-use Rattle.history_core.specs.Legal.{AtLast, Command, LegalReadBack, PartsGot, snapshot_keys, step_keys}
-use Rattle.history_core.specs.Placing.{AtLastScan, IsAnsweredScan, Placed, places, reply_at}
+use Rattle.history_core.specs.Discipline.{IsGot}
+use Rattle.history_core.specs.Legal.{PartsGot, snapshot_keys, step_keys}
+use Rattle.history_core.specs.Placing.{IsAnsweredScan, Placed, places, reply_at}
 use Rattle.history_core.specs.Readings.{rows_in}
 use Rattle.load_core.specs.declared.polls.Poll.{Poll}
 use Rattle.load_core.specs.declared.polls.Poll.TheVariants as polls
 use Rattle.load_core.specs.Costing.{CostKept, CostEnded}
-use Rattle.load_core.specs.Fronts.{Backwards, WhereLawful}
-use Rattle.load_core.specs.Trying as trying
-use Rattle.load_core.specs.Runs.{OnlyCarries}
-use Rattle.load_core.specs.Effects.{CommitsFirst, CommitsNone, CommitsStep, IsShown}
+use Rattle.load_core.specs.Effects.{CommitsFirst, CommitsNone, CommitsStep}
 use Rattle.read_client.specs.declared.questions.Question.{Question}
 use Rattle.read_client.specs.declared.readers.Reader.{Reader}
 use Rattle.read_client.specs.declared.stages.Stage.{Stage}
 use Rattle.read_client.specs.declared.stages.Stage.TheVariants as stages
-use Rattle.read_client.specs.Reading.{Moves, Prepares, call_of, question, shard_of}
+use Rattle.read_client.specs.Reading.{question}
 
 -- ---- what a poll does
 

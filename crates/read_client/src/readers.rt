@@ -16,7 +16,7 @@ ghost use Rattle.machine_core.specs.Polling as machines;
 ghost use Rattle.machine_core.specs.Polling.{CostGoesOn, LegalWhere, Polled, Unpolled};
 ghost use Rattle.read_client.specs.Machining.{machine};
 ghost use Rattle.read_client.specs.Polling.{CostAt};
-ghost use Rattle.read_client.specs.Reading.{IsOpen, IsReading, IsSound, LooksAt, Moves, MovesAfterCheck, MovesAfterGet, MovesAfterScan, MovesAfterTry, MovesByStage, Prepares, Wants, after_poll, call_of, change_refused, committed_answer, counted, expired, is_gone, last_member, listen_after, look_poll, member_after, missing_poll, newest_number, opened, own_member, parts_poll, parts_staged, question, read_call, refused_poll, rows_answer, shard_of, since_of, staged, strange, upper_of, verdict};
+ghost use Rattle.read_client.specs.Reading.{IsOpen, IsReading, IsSound, LooksAt, Moves, MovesAfterCheck, MovesAfterGet, MovesAfterScan, MovesAfterTry, MovesByStage, Wants, after_poll, call_of, change_refused, committed_answer, expired, is_gone, last_member, listen_after, member_after, missing_poll, newest_number, opened, own_member, parts_poll, parts_staged, question, read_call, refused_poll, rows_answer, shard_of, since_of, staged, strange, upper_of};
 ghost use Rattle.read_client.specs.declared.stages.Stage.TheVariants as stages;
 
 use crate::questions::{Look, Question};
