@@ -1,6 +1,6 @@
 -- A reader that has begun a command follows, and is within the bound on its calls.
 use Rattle.std.proofs.Common.{◌≡◌, ℕ, ◌≤◌, Option, Some, None, List, [], ◌∷◌, inl, inr, refl, sym, subst, arith}
-use Rattle.std.specs.Prelude.{⊤, reverse, IfSome}
+use Rattle.std.specs.Prelude.{⊤, IfSome}
 use Rattle.update_core.specs.declared.updates.Update.{Update}
 use Rattle.store_core.specs.declared.shards.ShardId.{ShardId}
 use Rattle.store_core.specs.declared.calls.Call.{Call}
@@ -31,16 +31,13 @@ use Rattle.read_client.specs.declared.readers.Reader.{Reader}
 use Rattle.read_client.specs.declared.stages.Stage.TheVariants as stages
 use Rattle.read_client.specs.Asking.{question_of}
 use Rattle.read_client.specs.Beginning.{BeginsRead, Changing}
-use Rattle.read_client.specs.Following.{FollowsStage, FollowsWhere}
+use Rattle.read_client.specs.Following.{Follows, FollowsStage, FollowsWhere}
 use Rattle.read_client.specs.Polling.{CostAt, CostBy}
 use Rattle.read_client.specs.Reading.{opened, shard_of}
-use Rattle.read_client.proofs.OnFronts.{FollowsThere}
-use Rattle.read_client.proofs.Polled.{where_so}
+use Rattle.machine_core.proofs.Fronts.{everywhere, there_too}
 
--- what holds of each start and entries holds over each front
-pub where_all : (shard : ShardId) (front : Option History) (P : Stored → List Entry → List Update → Type 0) → ((start : Stored) (es : List Entry) (list : List Update) → P start es list) → WhereLawful shard front (Backwards P)
-where_all shard None P p = tt
-where_all shard (Some h) P p = λ list st l. p h.start (reverse h.trail) list
+abbrev FollowsThere : ℕ → Reader → Stored → List Entry → List Update → Type 0
+FollowsThere client r start es list = Follows client r start es
 
 if_any : (q : Option Question) (P : Type 0) → P → IfSome q (λ x. P)
 if_any None P p = tt
@@ -49,10 +46,10 @@ if_any (Some q) P p = p
 -- ---- the open
 
 pub opened_follows : (shard : ShardId) (now lease client : ℕ) (front : Option History) → FollowsWhere client front (opened shard now lease)
-opened_follows shard now lease client front = where_all shard front (FollowsThere client (opened shard now lease)) (λ start es list. record { trying = record { shown = tt; owned = tt }; member = tt; reading = tt })
+opened_follows shard now lease client front = everywhere shard front (FollowsThere client (opened shard now lease)) (λ start es list. record { trying = record { shown = tt; owned = tt }; member = tt; reading = tt })
 
 pub opened_cost : (shard : ShardId) (now lease base client : ℕ) (front : Option History) → 3 ≤ base → WhereLawful (shard_of (opened shard now lease)) front (Backwards (CostAt base client (opened shard now lease)))
-opened_cost shard now lease base client front three = where_all shard front (CostAt base client (opened shard now lease)) (λ start es list lt. begun_cost base client (record { shard = shard; cached = None }) (steps.Join AsReader now lease) start es three)
+opened_cost shard now lease base client front three = everywhere shard front (CostAt base client (opened shard now lease)) (λ start es list lt. begun_cost base client (record { shard = shard; cached = None }) (steps.Join AsReader now lease) start es three)
 
 pub open_follows : (r : Reader) (shard : ShardId) (now lease : ℕ) → r ≡ opened shard now lease → (client : ℕ) (front : Option History) → FollowsWhere client front r
 open_follows r shard now lease e client front = subst (FollowsWhere client front) (sym e) (opened_follows shard now lease client front)
@@ -69,13 +66,13 @@ module _ (old : Reader) (asked : Asked) (listen : Option (Option ℕ)) where
   pub read_follows : (new : Reader) → BeginsRead old asked listen new → (client : ℕ) (front : Option History) → FollowsWhere client front old → FollowsWhere client front new
   read_follows new e client front f =
       subst (FollowsWhere client front) (sym e)
-      (where_so (shard_of old) front (FollowsThere client old) (FollowsThere client (record old { asked = Some asked; listen = listen; stage = stages.Scan; trying = record old.trying { calls = 0 } }))
+      (there_too (shard_of old) front (FollowsThere client old) (FollowsThere client (record old { asked = Some asked; listen = listen; stage = stages.Scan; trying = record old.trying { calls = 0 } }))
       (λ start es list h. record { trying = record { shown = h.trying.shown; owned = h.trying.owned }; member = h.member; reading = if_any (question_of (Some asked) listen) ⊤ tt }) f)
 
   pub read_cost : (new : Reader) → BeginsRead old asked listen new → (question_of (Some asked) listen ≡ None → ⊥) → (base client : ℕ) (front : Option History) → 3 ≤ base → WhereLawful (shard_of new) front (Backwards (CostAt base client new))
   read_cost new e some base client front three =
       subst (λ (r : Reader). WhereLawful (shard_of r) front (Backwards (CostAt base client r))) (sym e)
-      (where_all (shard_of old) front (CostAt base client (record old { asked = Some asked; listen = listen; stage = stages.Scan; trying = record old.trying { calls = 0 } }))
+      (everywhere (shard_of old) front (CostAt base client (record old { asked = Some asked; listen = listen; stage = stages.Scan; trying = record old.trying { calls = 0 } }))
       (λ start es list lt. by (question_of (Some asked) listen) start es some))
     where
       by : (q : Option Question) (start : Stored) (es : List Entry) → (q ≡ None → ⊥) → CostBy q base client (record old { asked = Some asked; listen = listen; stage = stages.Scan; trying = record old.trying { calls = 0 } }) start es
@@ -134,7 +131,7 @@ module _ (old : Reader) (asked : Asked) (step : ℕ → Transition) (acts : (mem
   pub change_follows : (new : Reader) → Changing old asked step new → (client : ℕ) (front : Option History) → FollowsWhere client front old → FollowsWhere client front new
   change_follows new (member, has, e) client front f =
       subst (FollowsWhere client front) (sym e)
-      (where_so (shard_of old) front (FollowsThere client old) (FollowsThere client (record old { asked = Some asked; trying = trying.begun old.trying.loader (step member) }))
+      (there_too (shard_of old) front (FollowsThere client old) (FollowsThere client (record old { asked = Some asked; trying = trying.begun old.trying.loader (step member) }))
       (λ start es list h. record {
         trying = record {
           shown = h.trying.shown;
@@ -148,5 +145,5 @@ module _ (old : Reader) (asked : Asked) (step : ℕ → Transition) (acts : (mem
   change_cost new (member, has, e) base client front three =
       let z : Reader = record old { asked = Some asked; trying = trying.begun old.trying.loader (step member) } in
       subst (λ (r : Reader). WhereLawful (shard_of r) front (Backwards (CostAt base client r))) (sym e)
-      (where_all (shard_of old) front (CostAt base client z)
+      (everywhere (shard_of old) front (CostAt base client z)
       (λ start es list lt. subst (λ (q : Option Question). CostBy q base client z start es) (sym (none old.listen)) (begun_cost base client old.trying.loader (step member) start es three)))

@@ -48,9 +48,8 @@ use Rattle.read_client.specs.declared.questions.Question.TheVariants as question
 use Rattle.read_client.specs.declared.readers.Reader.{Reader}
 use Rattle.read_client.specs.Asking.{question_of, step_question}
 use Rattle.read_client.specs.Following.{Follows}
-use Rattle.read_client.specs.Polling.{LegalPoll}
 use Rattle.read_client.specs.Reading.{AsksAs, IsSound, MovesAfterTry, call_by, call_of, committed_answer, expired, is_gone, last_member, newest_number, number_of, own_member, question, refused_poll, shard_of, since_of, strange, verdict}
-use Rattle.read_client.proofs.LegalPolls.{LegalOf, after_calls, among_now, found_kind, gone_expired, legal_poll, own_kind, is_there, scan_now, some_is}
+use Rattle.read_client.proofs.LegalPolls.{LegalOf, LegalPoll, after_calls, among_now, found_kind, gone_expired, legal_poll, own_kind, is_there, scan_now, some_is}
 use Rattle.read_client.proofs.Places.{found_stands, none_stands}
 
 -- ---- why a change is refused

@@ -72,7 +72,7 @@ use Rattle.read_client.specs.Following.{Follows, FollowsStage, IsRead, SinceGot,
 use Rattle.read_client.specs.Reading.{IsAsked, IsGetting, change_refused, is_gone, since_of, IsOpen, IsReading, IsSound, Moves, MovesAfterTry, MovesBy, MovesByFetched, Wants, WantsBy, after_poll, call_of, committed_answer, counted, expired, holding, last_member, look_poll, missing_poll, own_member, question, refused_poll, rows_answer, shard_of, staged, strange, verdict}
 use Rattle.read_client.proofs.HowRead.{IsScanStage, HowGot, gains, fails, misses, spoilt, heavy, HowRead, unscanned, damaged, scanned, checked, got, how_read}
 use Rattle.read_client.proofs.Looks.{all_named, no_join, parts_some, reads_parts}
-use Rattle.read_client.proofs.Polled.{Asks, scans, gets, reads_call, tries_call}
+use Rattle.read_client.proofs.Calling.{Asks, scans, gets, reads_call, tries_call}
 use Rattle.read_client.proofs.Sound.{Ends, asking, kept_trying, missing_ends}
 use Rattle.read_client.proofs.Stretch.{all_more, count_more, get_shows, behind_scan, mine_since, part_there, split_more}
 

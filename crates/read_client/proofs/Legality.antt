@@ -13,9 +13,9 @@ use Rattle.load_core.specs.declared.polls.Poll.{Poll}
 use Rattle.read_client.specs.declared.questions.Question.{Question}
 use Rattle.read_client.specs.declared.readers.Reader.{Reader}
 use Rattle.read_client.specs.Following.{Follows}
-use Rattle.read_client.specs.Polling.{LegalPoll}
 use Rattle.read_client.specs.Reading.{IsSound, Moves, MovesBy, call_of, question, shard_of}
 use Rattle.read_client.proofs.ChangeLegality.{change_legal}
+use Rattle.read_client.proofs.LegalPolls.{LegalPoll}
 use Rattle.read_client.proofs.ReadLegality.{read_legal}
 
 -- A reader that follows makes its call after entries of others. What a reply comes to is then legal: each answer is the collection's

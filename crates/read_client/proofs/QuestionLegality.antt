@@ -24,7 +24,8 @@ use Rattle.read_client.specs.declared.questions.Question.{Question}
 use Rattle.read_client.specs.declared.questions.Question.TheVariants as questions
 use Rattle.read_client.specs.declared.readers.Reader.{Reader}
 use Rattle.read_client.specs.Asking.{question_of, step_question}
-use Rattle.read_client.specs.Polling.{ReadsParts, RowGot, command_of}
+use Rattle.read_client.specs.Machining.{command_in, kept}
+use Rattle.read_client.specs.Polling.{ReadsParts, RowGot}
 use Rattle.read_client.specs.Reading.{AsksAs, rows_answer, shard_of, upper_of}
 use Rattle.read_client.proofs.LegalPolls.{is_there}
 use Rattle.read_client.proofs.Places.{found_stands}
@@ -50,7 +51,7 @@ module _ (client : ℕ) (r : Reader) (list : List Update) (start : Stored) (e : 
   Told q answer = QuestionLegal q answer × QuestionReads q answer
 
   reads_content : (t : ℕ) (answer : ReadAnswer) → QuestionLegal (questions.Content t) answer → QuestionReads (questions.Content t) answer →
-      ReadsParts client r calls answer start (e ∷ (others ++ es)) (asks.Snapshot t)
+      ReadsParts client (shard_of r) calls answer start (e ∷ (others ++ es)) (asks.Snapshot t)
   reads_content t (answers.Rows rows) legal h = h
   reads_content t (answers.Step from to rows) legal h = absurd legal
   reads_content t (answers.Opened joined version since) legal h = tt
@@ -66,7 +67,7 @@ module _ (client : ℕ) (r : Reader) (list : List Update) (start : Stored) (e : 
   reads_content t (answers.Expired version) legal h = tt
 
   reads_step : (f : Option ℕ) (asked : Asked) (answer : ReadAnswer) → QuestionLegal (questions.Step f) answer → QuestionReads (questions.Step f) answer →
-      ReadsParts client r calls answer start (e ∷ (others ++ es)) asked
+      ReadsParts client (shard_of r) calls answer start (e ∷ (others ++ es)) asked
   reads_step f asked (answers.Rows rows) legal h = absurd legal
   reads_step f asked (answers.Step from to rows) legal h = h
   reads_step f asked (answers.Opened joined version since) legal h = tt
@@ -83,7 +84,7 @@ module _ (client : ℕ) (r : Reader) (list : List Update) (start : Stored) (e : 
 
   -- it is legal as an answer to the command that asks it
   pub question_done : (q : Question) (asked : Asked) → question_of (Some asked) r.listen ≡ Some q → AsksAs (shard_of r) r.member r.trying.step r.listen asked → (answer : ReadAnswer) → Told q answer →
-      LegalReadBack list start (e ∷ (others ++ es)) (command_of client r asked calls) answer × ReadsParts client r calls answer start (e ∷ (others ++ es)) asked
+      LegalReadBack list start (e ∷ (others ++ es)) (command_in client (kept r) asked calls) answer × ReadsParts client (shard_of r) calls answer start (e ∷ (others ++ es)) asked
   question_done q (asks.Snapshot t) same h answer (legal, reads) =
       let this : q ≡ questions.Content t = cc in
       let legal2 = subst (λ (x : Question). QuestionLegal x answer) this legal in

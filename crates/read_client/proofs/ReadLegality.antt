@@ -63,12 +63,12 @@ use Rattle.read_client.specs.declared.stages.Stage.{Stage}
 use Rattle.read_client.specs.declared.stages.Stage.TheVariants as stages
 use Rattle.read_client.specs.Asking.{asks_of, look_of, question_of}
 use Rattle.read_client.specs.Following.{Follows, FollowsStage, IsRead, SinceGot, SinceMissing, own_count}
-use Rattle.read_client.specs.Polling.{LegalPoll, RowGot}
+use Rattle.read_client.specs.Polling.{RowGot}
 use Rattle.read_client.specs.Reading.{AsksAs, GoesBy, IsGetting, IsReading, IsSound, MovesByFetched, MovesByStage, after_poll, call_by, call_of, counted, holding, look_poll, missing_poll, own_member, parts_poll, question, read_call, rows_answer, shard_of, staged}
 use Rattle.read_client.proofs.HowRead.{HowGot, HowRead, IsScanStage, checked, damaged, fails, gains, got, heavy, how_read, misses, scanned, spoilt, unscanned}
-use Rattle.read_client.proofs.LegalPolls.{LegalOf, after_calls, found_kind, gone_expired, is_there, legal_poll, own_kind, scan_now, some_is}
+use Rattle.read_client.proofs.LegalPolls.{LegalOf, LegalPoll, after_calls, found_kind, gone_expired, is_there, legal_poll, own_kind, scan_now, some_is}
 use Rattle.read_client.proofs.Looks.{HowAsks, HowLook, HowParts, ReadsParts, SomeParts, all_named, asked, content_parts, gone, how_asks, how_look, nothing, over, parts_some, reads_parts, rows, slice, slice_parts, strange as shown_strange, too_early, too_far, too_late}
-use Rattle.read_client.proofs.OnFronts.{others_on}
+use Rattle.read_client.proofs.Waiting.{others_on}
 use Rattle.read_client.proofs.Places.{NoScanOf, at_last, found_stands, gone_back, got_since, joined_owns, next_count, none_stands, rows_back, stand_back, step_back}
 use Rattle.read_client.proofs.QuestionLegality.{Told, behind_told, early_told, ended_told, late_told, question_done, quiet_told, rows_told, step_told}
 use Rattle.read_client.proofs.StepParts.{row_in, row_since}

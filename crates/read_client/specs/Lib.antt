@@ -1,5 +1,6 @@
 pub mod Asking
-pub mod Reading
 pub mod Beginning
 pub mod Following
+pub mod Machining
 pub mod Polling
+pub mod Reading

@@ -1,18 +1,13 @@
 -- What one poll of a reader does, answers and costs. Entries go newest first.
-use Rattle.std.specs.Prelude.{⊤, ◌≡◌, ◌≢◌, ◌⊎◌, ℕ, ◌+◌, ◌<◌, ◌≤◌, Option, Some, None, IfSome, List, [], ◌∷◌, length}
+use Rattle.std.specs.Prelude.{⊤, ◌≡◌, ◌⊎◌, ℕ, ◌+◌, ◌<◌, ◌≤◌, Option, Some, None, List, [], ◌∷◌, length}
 use Rattle.std.specs.List.{AllByRecursion}
 use Rattle.update_core.specs.declared.updates.Update.{Update}
 use Rattle.store_core.specs.declared.part_keys.PartKey.{PartKey}
 use Rattle.store_core.specs.declared.shards.ShardId.{ShardId}
 use Rattle.store_core.specs.declared.calls.Call.{Call}
-use Rattle.store_core.specs.declared.calls.Call.TheVariants as calls
 use Rattle.store_core.specs.declared.replies.Reply.{Reply}
-use Rattle.store_core.specs.declared.replies.Reply.TheVariants as replies
 use Rattle.store_core.specs.declared.entries.Entry.{Entry}
-use Rattle.store_core.specs.Histories.{History}
 use Rattle.store_core.specs.Stores.{Stored}
-use Rattle.store_core.specs.Ports.{GainsWhereTold, GrowsByOthers}
-use Rattle.store_core.specs.Newest.{mine_back}
 use Rattle.state_core.specs.Lists.{Among}
 use Rattle.state_core.specs.declared.transitions.Transition.{Transition}
 use Rattle.state_core.specs.VersionReading.{most}
@@ -21,22 +16,19 @@ use Rattle.history_core.specs.declared.asked.Asked.TheVariants as asks
 use Rattle.history_core.specs.declared.read_answers.ReadAnswer.{ReadAnswer}
 use Rattle.history_core.specs.declared.read_answers.ReadAnswer.TheVariants as answers
 use Rattle.history_core.specs.Costs.{failed_calls, WithinReads, read_base}
-use Rattle.history_core.specs.Discipline.{Allows, IsGot}
-use Rattle.history_core.specs.Legal.{AtLast, Command, LegalReadBack, PartsGot, snapshot_keys, step_keys}
-use Rattle.history_core.specs.Placing.{AtLastScan, IsAnsweredScan, Placed, places, reply_at}
+use Rattle.history_core.specs.Discipline.{IsGot}
+use Rattle.history_core.specs.Legal.{PartsGot, snapshot_keys, step_keys}
+use Rattle.history_core.specs.Placing.{IsAnsweredScan, Placed, places, reply_at}
 use Rattle.history_core.specs.Readings.{rows_in}
 use Rattle.load_core.specs.declared.polls.Poll.{Poll}
 use Rattle.load_core.specs.declared.polls.Poll.TheVariants as polls
 use Rattle.load_core.specs.Costing.{CostKept, CostEnded}
-use Rattle.load_core.specs.Fronts.{Backwards, WhereLawful}
-use Rattle.load_core.specs.Trying as trying
-use Rattle.load_core.specs.Runs.{OnlyCarries}
-use Rattle.load_core.specs.Effects.{CommitsFirst, CommitsNone, CommitsStep, IsShown}
+use Rattle.load_core.specs.Effects.{CommitsFirst, CommitsNone, CommitsStep}
 use Rattle.read_client.specs.declared.questions.Question.{Question}
 use Rattle.read_client.specs.declared.readers.Reader.{Reader}
 use Rattle.read_client.specs.declared.stages.Stage.{Stage}
 use Rattle.read_client.specs.declared.stages.Stage.TheVariants as stages
-use Rattle.read_client.specs.Reading.{Moves, Prepares, call_of, question, shard_of}
+use Rattle.read_client.specs.Reading.{question}
 
 -- ---- what a poll does
 
@@ -64,55 +56,7 @@ IsRefusal (polls.Done (answers.Back since)) = ⊤
 IsRefusal (polls.Done (answers.Expired version)) = ⊤
 IsRefusal _ = ⊥
 
--- its one call, which the client may make and whose Cas carries what was asked, and what the reply to it comes to
-pub record Calls (client : ℕ) (front front_now : Option History) (old new : Reader) (poll : Poll ReadAnswer) : Type 0 where
-  pub ready : Reader
-  pub prepares : Prepares old ready
-  pub call : Call
-  pub call_is : call_of ready ≡ Some call
-  pub carries : OnlyCarries (shard_of old) old.trying.step call
-  pub allowed : WhereLawful (shard_of old) front (Backwards (λ start es list. Allows (mine_back start es client) call))
-  pub reply : Reply
-  pub gains : GainsWhereTold client front front_now call reply
-  pub moves : Moves ready reply new poll
-  pub failed : poll ≡ polls.Fault → reply ≡ replies.Failed
-  pub answered : poll ≡ polls.More → reply ≢ replies.Failed
-  -- a refusal is what a Scan shows, and this very call is the Scan
-  pub shown : IsRefusal poll → IsShown (shard_of old) call reply
-  pub counted : new.trying.calls ≡ trying.more old.trying.calls
-  pub effect : Effect (shard_of old) old.trying.step call reply poll
-
--- a poll that finds the store taken makes no call; each other makes one
-abbrev pub Polled : ℕ → Option History → Option History → Reader → Reader → Poll ReadAnswer → Type 0
-Polled client front front_now old new polls.Busy = (front_now ≡ front) × Prepares old new
-Polled client front front_now old new poll = Calls client front front_now old new poll
-
--- the call changes nothing
-abbrev pub IsReading : Call → Type 0
-IsReading (calls.Scan shard from) = ⊤
-IsReading (calls.Get key) = ⊤
-IsReading _ = ⊥
-
--- what is left after want of memory: no call was made, or a Scan or a Get was, which is to be made again
-abbrev pub Unpolled : ℕ → Option History → Option History → Reader → Reader → Type 0
-Unpolled client front front_now old new =
-    (GrowsByOthers client front front_now × ((new ≡ old) ⊎ Prepares old new)) ⊎
-    ((ready : Reader) × (call : Call) × (reply : Reply) × Prepares old ready × (call_of ready ≡ Some call) × IsReading call ×
-    GainsWhereTold client front front_now call reply × (call_of new ≡ Some call))
-
 -- ---- what it answers
-
--- the command that was open, after as many calls
-abbrev pub command_of : ℕ → Reader → Asked → ℕ → Command
-command_of client r asked calls = record {
-  client = client;
-  shard = shard_of r;
-  member = r.member;
-  token = 0;
-  listen = r.listen;
-  asked = asked;
-  calls = calls;
-}
 
 -- the entry is a Get, answered with bytes that are a part in which the row stands
 abbrev pub GetsRow : Stored → Update → Placed → Type 0
@@ -127,29 +71,12 @@ RowGot start shard (p ∷ ps) row = (¬ IsAnsweredScan shard p) × (GetsRow star
 
 -- Where rows are answered, each part that the question is about was answered with bytes since the command's last Scan, and each row
 -- of a step stands in a part that a Get of the command was answered with since then.
-abbrev pub ReadsParts : ℕ → Reader → ℕ → ReadAnswer → Stored → List Entry → Asked → Type 0
-ReadsParts client r calls (answers.Rows rows) start es (asks.Snapshot t) =
-    PartsGot start (shard_of r) (snapshot_keys t) (places client calls es)
-ReadsParts client r calls (answers.Step from to rows) start es asked =
-    PartsGot start (shard_of r) (step_keys from) (places client calls es) × AllByRecursion (RowGot start (shard_of r) (places client calls es)) rows
-ReadsParts client r calls _ start es asked = ⊤
-
--- An answer is legal. Spent comes only where the last version of the command's last Scan has the last number. Nothing is damaged.
-abbrev pub LegalPoll : ℕ → Reader → Reader → Poll ReadAnswer → Stored → List Entry → List Update → Type 0
-LegalPoll client old new (polls.Done answer) start es list =
-    new.trying.calls < most →
-    IfSome old.asked (λ asked.
-    LegalReadBack list start es (command_of client old asked new.trying.calls) answer ×
-    ReadsParts client old new.trying.calls answer start es asked)
-LegalPoll client old new polls.Spent start es list =
-    new.trying.calls < most →
-    AtLastScan (shard_of old) (AtLast start (shard_of old) (λ n s. n ≡ most)) (places client new.trying.calls es)
-LegalPoll client old new (polls.Damaged damage) start es list = ⊥
-LegalPoll client old new _ start es list = ⊤
-
--- the same over a front, where it is told, lawful and from a start that stands for a list
-abbrev pub LegalWhere : ℕ → Option History → Reader → Reader → Poll ReadAnswer → Type 0
-LegalWhere client front old new poll = WhereLawful (shard_of old) front (Backwards (LegalPoll client old new poll))
+abbrev pub ReadsParts : ℕ → ShardId → ℕ → ReadAnswer → Stored → List Entry → Asked → Type 0
+ReadsParts client shard calls (answers.Rows rows) start es (asks.Snapshot t) =
+    PartsGot start shard (snapshot_keys t) (places client calls es)
+ReadsParts client shard calls (answers.Step from to rows) start es asked =
+    PartsGot start shard (step_keys from) (places client calls es) × AllByRecursion (RowGot start shard (places client calls es)) rows
+ReadsParts client shard calls _ start es asked = ⊤
 
 -- ---- what it costs
 
@@ -181,16 +108,3 @@ OverBy (Some q) base client stage r start es = OverStage client r stage es
 
 abbrev pub CostOver : ℕ → ℕ → Reader → Reader → Stored → List Entry → List Update → Type 0
 CostOver base client old new start es list = new.trying.calls < most → OverBy (question old) base client old.stage new start es
-
--- after a poll, by what it comes to
-abbrev pub CostPoll : ℕ → ℕ → Reader → Reader → Poll ReadAnswer → Stored → List Entry → List Update → Type 0
-CostPoll base client old new polls.Busy = CostAt base client new
-CostPoll base client old new polls.More = CostAt base client new
-CostPoll base client old new polls.Fault = CostAt base client new
-CostPoll base client old new _ = CostOver base client old new
-
--- the bound on the calls goes on, over fronts that are told, lawful and from a start that stands for a list
-abbrev pub CostGoesOn : ℕ → Option History → Option History → Reader → Reader → Poll ReadAnswer → Type 0
-CostGoesOn client front front_now old new poll =
-    (base : ℕ) → 3 ≤ base → WhereLawful (shard_of old) front (Backwards (CostAt base client old)) →
-    WhereLawful (shard_of old) front_now (Backwards (CostPoll base client old new poll))

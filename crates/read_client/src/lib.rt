@@ -2,6 +2,7 @@
 #![tactic(auto)]
 
 pub mod laws;
+mod machines;
 mod questions;
 mod readers;
 mod stages;

@@ -12,8 +12,11 @@ ghost use Rattle.read_client.specs.Asking.{look_of};
 ghost use Rattle.read_client.specs.Beginning.{Begins, BeginsRead, Changing, MayAsk, member_fault, next_fault};
 ghost use Rattle.read_client.specs.Following.{FollowsWhere};
 ghost use Rattle.load_core.specs.Fronts.{Backwards, WhereLawful};
-ghost use Rattle.read_client.specs.Polling.{CostAt, CostGoesOn, LegalWhere, Polled, Unpolled};
-ghost use Rattle.read_client.specs.Reading.{IsOpen, IsReading, IsSound, LooksAt, Moves, MovesAfterCheck, MovesAfterGet, MovesAfterScan, MovesAfterTry, MovesByStage, Prepares, Wants, after_poll, call_of, change_refused, committed_answer, counted, expired, is_gone, last_member, listen_after, look_poll, member_after, missing_poll, newest_number, opened, own_member, parts_poll, parts_staged, question, read_call, refused_poll, rows_answer, shard_of, since_of, staged, strange, upper_of, verdict};
+ghost use Rattle.machine_core.specs.Polling as machines;
+ghost use Rattle.machine_core.specs.Polling.{CostGoesOn, LegalWhere, Polled, Unpolled};
+ghost use Rattle.read_client.specs.Machining.{machine};
+ghost use Rattle.read_client.specs.Polling.{CostAt};
+ghost use Rattle.read_client.specs.Reading.{IsOpen, IsReading, IsSound, LooksAt, Moves, MovesAfterCheck, MovesAfterGet, MovesAfterScan, MovesAfterTry, MovesByStage, Wants, after_poll, call_of, change_refused, committed_answer, expired, is_gone, last_member, listen_after, member_after, missing_poll, newest_number, opened, own_member, parts_poll, parts_staged, question, read_call, refused_poll, rows_answer, shard_of, since_of, staged, strange, upper_of};
 ghost use Rattle.read_client.specs.declared.stages.Stage.TheVariants as stages;
 
 use crate::questions::{Look, Question};
@@ -23,7 +26,7 @@ use load_core::{BeginFault, Damage, Fetched, Getting, Loader, Poll, Seen, Tried,
 use spine_core::KeyList;
 use state_core::{Kind, Refusal, State, Transition};
 use std::alloc::{AllocError, Global};
-use store_core::{Call, PartKey, Port, Reply, ShardId, Turn};
+use store_core::{PartKey, Port, Reply, ShardId};
 use update_core::{Frontier, RowList, UpdateList, slice_between, sum_at};
 
 /// A reader of one shard. It joins as a member with a lease when it is opened, and what it reads is kept for it while the lease
@@ -218,7 +221,7 @@ impl Reader {
     }
 
     // What is asked of the collection, where the open command reads it.
-    fn question(&self) -> Option<Question>
+    pub(crate) fn question(&self) -> Option<Question>
         ensures { result ≡ question self.now }
     {
         match &self.asked {
@@ -228,33 +231,6 @@ impl Reader {
                 None => None,
             },
             _ => None,
-        }
-    }
-
-    fn prepare(&mut self, alloc: Global) -> Result<(), AllocError>
-        requires open { IsOpen self.old }
-        requires sound { IsSound self.old }
-        ensures prepares { OnOk result (Prepares self.old self.new) }
-        ensures sound { IsSound self.new }
-        ensures memory { OnErr result (self.new ≡ self.old) }
-    {
-        if self.question().is_none() {
-            self.trying.prepare(alloc)?;
-        }
-        Ok(())
-    }
-
-    // The call that comes next.
-    fn next_call(&self) -> Result<Call, AllocError>
-        requires { IsSound self.now }
-        ensures { IfOk result (λ call. call_of self.now ≡ Some call) }
-    {
-        match self.question() {
-            None => self.trying.next_call(),
-            Some(_) => match self.stage {
-                Stage::Get => Ok(self.getting.next_call()),
-                _ => Ok(self.trying.loader.next()),
-            },
         }
     }
 
@@ -269,16 +245,16 @@ impl Reader {
         requires open { IsOpen self.old }
         requires sound { IsSound self.old }
         // Over each told front that is lawful and starts as a collection, the reader follows from the client's own entries.
-        requires follows { FollowsWhere (P.client port.old) (P.front port.old) self.old }
+        requires follows { machines.FollowsWhere machine (P.client port.old) (P.front port.old) self.old }
         // At most one call is made, one that the client may make, and its reply comes to this.
-        ensures polled { IfOk result (λ poll. Polled (P.client port.old) (P.front port.old) (P.front port.new) self.old self.new poll) }
-        ensures memory { OnErr result (Unpolled (P.client port.old) (P.front port.old) (P.front port.new) self.old self.new) }
+        ensures polled { IfOk result (λ poll. Polled machine (P.client port.old) (P.front port.old) (P.front port.new) self.old self.new poll) }
+        ensures memory { OnErr result (Unpolled machine (P.client port.old) (P.front port.old) (P.front port.new) self.old self.new) }
         ensures sound { IsSound self.new }
-        ensures follows { FollowsWhere (P.client port.old) (P.front port.new) self.new }
+        ensures follows { machines.FollowsWhere machine (P.client port.old) (P.front port.new) self.new }
         // Each answer is legal at the end of the front, and nothing is damaged there.
-        ensures legal { IfOk result (λ poll. LegalWhere (P.client port.old) (P.front port.new) self.old self.new poll) }
+        ensures legal { IfOk result (λ poll. LegalWhere machine (P.client port.old) (P.front port.new) self.old self.new poll) }
         // The bound on the calls is kept.
-        ensures cost { IfOk result (λ poll. CostGoesOn (P.client port.old) (P.front port.old) (P.front port.new) self.old self.new poll) }
+        ensures cost { IfOk result (λ poll. CostGoesOn machine (P.client port.old) (P.front port.old) (P.front port.new) self.old self.new poll) }
         ensures busy { result ≡ Ok polls.Busy → P.misses port.old < P.misses port.new }
         ensures fault { result ≡ Ok polls.Fault → Rose (P.faults port.old) (P.faults port.new) }
         ensures faults { P.faults port.old ≤ P.faults port.new }
@@ -286,30 +262,15 @@ impl Reader {
         ensures client { P.client port.new ≡ P.client port.old }
         ensures loan { P.loan port.new ≡ P.loan port.old }
     {
-        self.prepare(alloc)?;
-        let call = self.next_call()?;
-        match port.try_call(&call)? {
-            Turn::Busy => Ok(Poll::Busy),
-            Turn::Reply(reply) => self.react(alloc, reply),
-        }
-    }
-
-    // What the reply to the next call comes to.
-    fn react(&mut self, alloc: Global, reply: Reply) -> Result<Poll<ReadAnswer>, AllocError>
-        requires open { IsOpen self.old }
-        requires sound { IsSound self.old }
-        requires row { IfSome (call_of self.old) (λ call. IsReplyTo call reply) }
-        ensures moves { IfOk result (λ poll. Moves self.old reply self.new poll) }
-        ensures sound { IsSound self.new }
-        ensures memory { OnErr result (Wants self.old self.new) }
-    {
-        let poll = self.reaction(alloc, reply)?;
-        self.settle(&poll);
-        Ok(poll)
+        machine_core::poll(self, alloc, port)
     }
 
     // What the reply comes to, before the reader has settled by it.
-    fn reaction(&mut self, alloc: Global, reply: Reply) -> Result<Poll<ReadAnswer>, AllocError>
+    pub(crate) fn reaction(
+        &mut self,
+        alloc: Global,
+        reply: Reply,
+    ) -> Result<Poll<ReadAnswer>, AllocError>
         requires open { IsOpen self.old }
         requires sound { IsSound self.old }
         requires row { IfSome (call_of self.old) (λ call. IsReplyTo call reply) }
@@ -348,7 +309,7 @@ impl Reader {
     }
 
     // What becomes of the reader after a poll.
-    fn settle(&mut self, poll: &Poll<ReadAnswer>)
+    pub(crate) fn settle(&mut self, poll: &Poll<ReadAnswer>)
         ensures { self.new ≡ after_poll self.old poll.now }
     {
         match poll {

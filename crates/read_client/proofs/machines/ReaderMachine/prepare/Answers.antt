@@ -1,6 +1,6 @@
 use Rattle.read_client.specs.Reading.{question}
 use Rattle.read_client.proofs.Moving.{prepared_sound, question_none}
-use Rattle.read_client.proofs.readers.Reader.prepare.Goals as goal
+use Rattle.read_client.proofs.machines.ReaderMachine.prepare.Goals as goal
 
 pub returns-in_ok-prepare-clause-sound : goal.returns-in_ok-prepare-clause-sound
 returns-in_ok-prepare-clause-sound c =
