@@ -13,8 +13,8 @@ use std::alloc::AllocError;
 /// The way of the one client of a store: the store, and the number that the client's entries carry.
 #[derive(Drop)]
 pub struct DirectPort<'a, S: Store> {
-    pub store: &'a mut S,
-    pub client: u64,
+    pub(crate) store: &'a mut S,
+    pub(crate) client: u64,
 }
 
 impl<'a, S: Store> DirectPort<'a, S> {
