@@ -10,6 +10,7 @@ use Rattle.store_core.specs.declared.calls.Call.TheVariants as calls
 use Rattle.store_core.specs.declared.outcomes.Outcome.{Outcome}
 use Rattle.store_core.specs.declared.outcomes.Outcome.TheVariants.{Took, FailedTook, FailedLost}
 use Rattle.store_core.specs.declared.entries.Entry.{Entry}
+use Rattle.store_core.specs.Changes.{commits}
 use Rattle.store_core.specs.Stores.{Log, Stored, last_number, next_number, committed, cas_log, after_call}
 use Rattle.store_core.specs.Histories.{after_outcome, reply_by}
 use Rattle.store_core.specs.Ports.{Answered}
@@ -19,7 +20,7 @@ use Rattle.state_core.specs.declared.transitions.Transition.{Transition}
 use Rattle.state_core.specs.declared.transitions.Transition.TheVariants.{Init, Join, Leave, Renew, Advance, Expire, Append, Merge}
 use Rattle.state_core.specs.VersionReading.{version_in}
 use Rattle.state_core.proofs.ListLemmas.{bool_cases, append-nil}
-use Rattle.history_core.specs.Histories.{same_shard, commits, took_effect, ever}
+use Rattle.history_core.specs.Histories.{same_shard, took_effect, ever}
 use Rattle.history_core.specs.Discipline.{Hold, Holds, StoredAs, IsStored, Allows, CasAllowed, LawfulBack}
 use Rattle.history_core.specs.Stands.{end_of, rows_under, rows_of_blob, appended_by, appended, accepted, accepted_of}
 use Rattle.history_core.specs.Walks.{Walked, with_blobs, number_given, rows_given, after_given, walk_call, walk_entry, walk_back}

@@ -4,12 +4,13 @@ use Rattle.store_core.specs.declared.shards.ShardId.{ShardId}
 use Rattle.store_core.specs.declared.calls.Call.{Call}
 use Rattle.store_core.specs.declared.calls.Call.TheVariants as calls
 use Rattle.store_core.specs.declared.entries.Entry.{Entry}
+use Rattle.store_core.specs.Changes.{commits}
 use Rattle.store_core.specs.Stores.{Log, Stored, committed}
 use Rattle.state_core.specs.declared.transitions.Transition.{Transition}
 use Rattle.state_core.specs.States.{ShardState}
 use Rattle.state_core.specs.VersionReading.{version_in}
 use Rattle.state_core.proofs.ListLemmas.{bool_cases}
-use Rattle.history_core.specs.Histories.{same_shard, commits, took_effect, grown}
+use Rattle.history_core.specs.Histories.{same_shard, took_effect, grown}
 use Rattle.history_core.specs.Stands.{end_of, appended_by, appended}
 use Rattle.history_core.proofs.Logs.{end_of-committed}
 use Rattle.history_core.proofs.Entries.{shard_same}

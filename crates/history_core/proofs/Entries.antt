@@ -12,11 +12,12 @@ use Rattle.store_core.specs.declared.calls.Call.TheVariants as calls
 use Rattle.store_core.specs.declared.outcomes.Outcome.{Outcome}
 use Rattle.store_core.specs.declared.outcomes.Outcome.TheVariants.{Took, FailedTook, FailedLost}
 use Rattle.store_core.specs.declared.entries.Entry.{Entry}
+use Rattle.store_core.specs.Changes.{commits}
 use Rattle.store_core.specs.Stores.{Log, Stored, shard_cmp, key_cmp, same_number, last_number, is_last_number, committed, truncated, cas_log, after_call}
 use Rattle.store_core.specs.Histories.{after_outcome, reply}
 use Rattle.store_core.specs.Ports.{Answered, answered}
 use Rattle.store_core.specs.Newest.{replay_back, mine_back}
-use Rattle.history_core.specs.Histories.{same_shard, commits, took_effect, grown}
+use Rattle.history_core.specs.Histories.{same_shard, took_effect, grown}
 use Rattle.history_core.specs.Discipline.{Allows, OwnLawful, LawfulBack}
 use Rattle.std.specs.declared.cmp.Ordering.{Ordering}
 use Rattle.std.specs.declared.cmp.Ordering.TheVariants.{Less, Equal, Greater}

@@ -6,8 +6,9 @@ use Rattle.std.proofs.lemmas.Bool.Decides.{nat_tests}
 use Rattle.state_core.specs.Lists.{Among}
 use Rattle.state_core.proofs.ListLemmas.{bool_cases}
 use Rattle.store_core.specs.declared.versions.Version.{Version}
+use Rattle.store_core.specs.Changes.{commits}
 use Rattle.store_core.specs.Stores.{Log, last_number, same_number, next_number, last_of, numbered, live, committed, truncated, gone}
-use Rattle.history_core.specs.Histories.{bytes_from, version_at, commits}
+use Rattle.history_core.specs.Histories.{bytes_from, version_at}
 use Rattle.history_core.specs.Stands.{end_of}
 
 bounds-from : (first : ℕ) (vs : List (List ℕ)) (n : ℕ) (v : List ℕ) → bytes_from first vs n ≡ Some v →

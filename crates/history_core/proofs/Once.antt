@@ -7,6 +7,7 @@ use Rattle.store_core.specs.declared.shards.ShardId.{ShardId}
 use Rattle.store_core.specs.declared.calls.Call.{Call}
 use Rattle.store_core.specs.declared.calls.Call.TheVariants as calls
 use Rattle.store_core.specs.declared.entries.Entry.{Entry}
+use Rattle.store_core.specs.Changes.{commits}
 use Rattle.store_core.specs.Stores.{Log, Stored, no_log, committed}
 use Rattle.store_core.specs.Newest.{replay_back}
 use Rattle.state_core.specs.declared.transitions.Transition.{Transition}
@@ -14,7 +15,7 @@ use Rattle.state_core.specs.declared.transitions.Transition.TheVariants.{Init, J
 use Rattle.state_core.specs.States.{ShardState, IsState}
 use Rattle.state_core.specs.Steps.{Applies, Spends}
 use Rattle.state_core.specs.VersionReading.{version_in}
-use Rattle.history_core.specs.Histories.{same_shard, commits, took_effect, grown, ever}
+use Rattle.history_core.specs.Histories.{same_shard, took_effect, grown, ever}
 use Rattle.history_core.specs.Discipline.{LawfulBack}
 use Rattle.history_core.specs.Stands.{StateIn, end_of, IsLast}
 use Rattle.std.proofs.Common.{◌≢◌}

@@ -8,6 +8,7 @@ use Rattle.store_core.specs.declared.calls.Call.TheVariants as calls
 use Rattle.store_core.specs.declared.outcomes.Outcome.{Outcome}
 use Rattle.store_core.specs.declared.outcomes.Outcome.TheVariants.{Took, FailedTook, FailedLost}
 use Rattle.store_core.specs.declared.entries.Entry.{Entry}
+use Rattle.store_core.specs.Changes.{commits}
 use Rattle.store_core.specs.Stores.{Log, Stored, same_number, last_number, is_last_number, next_number, committed, reply_of}
 use Rattle.store_core.specs.Histories.{reply_by}
 use Rattle.store_core.specs.Ports.{Answered}
@@ -20,7 +21,7 @@ use Rattle.state_core.specs.declared.transitions.Transition.{Transition}
 use Rattle.state_core.specs.States.{ShardState}
 use Rattle.state_core.specs.VersionReading.{version_in}
 use Rattle.state_core.proofs.ListLemmas.{bool_cases, among_map}
-use Rattle.history_core.specs.Histories.{commits, took_effect, ever, grown}
+use Rattle.history_core.specs.Histories.{took_effect, ever, grown}
 use Rattle.history_core.specs.Discipline.{IsJoin, Owns, OwnsSome, Allows, LawfulBack}
 use Rattle.history_core.specs.Stands.{StandsFor, StateIn, IsLast, end_of}
 use Rattle.history_core.specs.Laws.{LastIs}

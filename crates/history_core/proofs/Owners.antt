@@ -9,6 +9,7 @@ use Rattle.store_core.specs.declared.replies.Reply.TheVariants as replies
 use Rattle.store_core.specs.declared.outcomes.Outcome.{Outcome}
 use Rattle.store_core.specs.declared.outcomes.Outcome.TheVariants.{Took, FailedTook, FailedLost}
 use Rattle.store_core.specs.declared.entries.Entry.{Entry}
+use Rattle.store_core.specs.Changes.{commits}
 use Rattle.store_core.specs.Stores.{Log, Stored, no_log, same_number, last_number, is_last_number, next_number, reply_of}
 use Rattle.store_core.specs.Histories.{reply_by}
 use Rattle.store_core.specs.Ports.{Answered}
@@ -19,7 +20,7 @@ use Rattle.state_core.specs.declared.transitions.Transition.TheVariants.{Init, J
 use Rattle.state_core.specs.States.{ShardState}
 use Rattle.state_core.specs.Steps.{acts_for, init}
 use Rattle.state_core.specs.VersionReading.{version_in}
-use Rattle.history_core.specs.Histories.{version_at, commits, Told, Shows, ever}
+use Rattle.history_core.specs.Histories.{version_at, Told, Shows, ever}
 use Rattle.history_core.specs.Discipline.{JoinsAs, IsJoin, Owns, OwnsSome, Holds, Allows}
 use Rattle.history_core.specs.Stands.{VersionIs, end_of}
 use Rattle.history_core.proofs.Versions.{logs_agree, live, shows_ever}

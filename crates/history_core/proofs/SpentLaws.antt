@@ -8,6 +8,7 @@ use Rattle.store_core.specs.declared.shards.ShardId.{ShardId}
 use Rattle.store_core.specs.declared.calls.Call.{Call}
 use Rattle.store_core.specs.declared.calls.Call.TheVariants as calls
 use Rattle.store_core.specs.declared.entries.Entry.{Entry}
+use Rattle.store_core.specs.Changes.{commits}
 use Rattle.store_core.specs.Stores.{Stored}
 use Rattle.store_core.specs.Ports.{Answered}
 use Rattle.store_core.specs.Newest.{replay_back, mine_back}
@@ -18,7 +19,7 @@ use Rattle.state_core.specs.declared.transitions.Transition.TheVariants.{Init, J
 use Rattle.state_core.specs.States.{ShardState}
 use Rattle.state_core.specs.Steps.{Spends, acts_for}
 use Rattle.state_core.specs.VersionReading.{version_in}
-use Rattle.history_core.specs.Histories.{took_effect, same_shard, commits, ever}
+use Rattle.history_core.specs.Histories.{took_effect, same_shard, ever}
 use Rattle.history_core.specs.Discipline.{IsJoin, Owns, OwnsSome, CasAllowed, Allows, LawfulBack}
 use Rattle.history_core.specs.Stands.{StandsFor, StateIn, end_of}
 use Rattle.history_core.specs.Spending.{is_spending, is_commit_under, commits_under, own_commits}

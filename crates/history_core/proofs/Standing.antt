@@ -3,6 +3,7 @@ use Rattle.std.proofs.Common.{◌≡◌, ℕ, ◌+◌, ◌<◌, ◌≤◌, true,
 use Rattle.store_core.specs.declared.shards.ShardId.{ShardId}
 use Rattle.store_core.specs.declared.calls.Call.TheVariants as calls
 use Rattle.store_core.specs.declared.entries.Entry.{Entry}
+use Rattle.store_core.specs.Changes.{commits}
 use Rattle.store_core.specs.Stores.{Log, Stored, no_log, next_number, committed}
 use Rattle.store_core.specs.Histories.{reply_by}
 use Rattle.store_core.specs.Ports.{Answered}
@@ -12,7 +13,7 @@ use Rattle.state_core.specs.declared.transitions.Transition.TheVariants.{Init, J
 use Rattle.state_core.specs.States.{ShardState}
 use Rattle.state_core.specs.Steps.{Applies, init}
 use Rattle.state_core.specs.VersionReading.{version_in}
-use Rattle.history_core.specs.Histories.{commits, ever}
+use Rattle.history_core.specs.Histories.{ever}
 use Rattle.history_core.specs.Discipline.{IsJoin, Owns, Allows, LawfulBack}
 use Rattle.history_core.specs.Stands.{VersionIs, StateIn, end_of, IsLast, IsChain, KeysIn}
 use Rattle.state_core.proofs.Keys.{next_rises}

@@ -9,6 +9,7 @@ use Rattle.store_core.specs.declared.calls.Call.TheVariants as calls
 use Rattle.store_core.specs.declared.replies.Reply.{Reply}
 use Rattle.store_core.specs.declared.replies.Reply.TheVariants as replies
 use Rattle.store_core.specs.declared.entries.Entry.{Entry}
+use Rattle.store_core.specs.Changes.{commits}
 use Rattle.store_core.specs.Stores.{Log, Stored, committed, truncated}
 use Rattle.store_core.specs.Ports.{Answered}
 use Rattle.store_core.specs.Newest.{replay_back, mine_back}
@@ -16,7 +17,7 @@ use Rattle.state_core.specs.declared.transitions.Transition.{Transition}
 use Rattle.state_core.specs.States.{ShardState, floor}
 use Rattle.state_core.specs.Steps.{Takes}
 use Rattle.state_core.specs.VersionReading.{version_in}
-use Rattle.history_core.specs.Histories.{version_at, commits, took_effect, Told, Shows, ever}
+use Rattle.history_core.specs.Histories.{version_at, took_effect, Told, Shows, ever}
 use Rattle.history_core.specs.Discipline.{TakesIn, TakenUpTo, NewestIs, IsScanTaking, IsScanCovering, Allows, LawfulBack}
 use Rattle.history_core.specs.Stands.{VersionIs, StateIn, TakenIn}
 use Rattle.history_core.proofs.Entries.{LogStep, idle, cuts, adds, log_step, lawful_newest}

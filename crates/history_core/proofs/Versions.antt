@@ -9,10 +9,11 @@ use Rattle.store_core.specs.declared.replies.Reply.TheVariants as replies
 use Rattle.store_core.specs.declared.outcomes.Outcome.{Outcome}
 use Rattle.store_core.specs.declared.outcomes.Outcome.TheVariants.{Took, FailedTook, FailedLost}
 use Rattle.store_core.specs.declared.entries.Entry.{Entry}
+use Rattle.store_core.specs.Changes.{commits}
 use Rattle.store_core.specs.Stores.{Log, Stored, same_number, last_number, is_last_number, next_number, committed, truncated, reply_of, after_call}
 use Rattle.store_core.specs.Histories.{after_outcome, reply_by}
 use Rattle.store_core.specs.Newest.{replay_back, mine_back}
-use Rattle.history_core.specs.Histories.{version_at, commits, Told, Shows, grown, ever}
+use Rattle.history_core.specs.Histories.{version_at, Told, Shows, grown, ever}
 use Rattle.history_core.specs.Stands.{end_of}
 use Rattle.history_core.proofs.Entries.{LogStep, idle, cuts, adds, log_step, among_mine, cas_commits}
 use Rattle.history_core.proofs.Logs.{end_of-committed, last_number-committed, end_of-truncated, last_number-truncated, committed_either, committed_old, committed_new, truncated_old, last_there, scan_there, empty_last, last_none_empty, commits_next}

@@ -12,13 +12,14 @@ use Rattle.store_core.specs.declared.calls.Call.TheVariants as calls
 use Rattle.store_core.specs.declared.outcomes.Outcome.{Outcome}
 use Rattle.store_core.specs.declared.outcomes.Outcome.TheVariants.{Took, FailedTook, FailedLost}
 use Rattle.store_core.specs.declared.entries.Entry.{Entry}
+use Rattle.store_core.specs.Changes.{commits}
 use Rattle.store_core.specs.Stores.{Log, Stored, key_cmp, same_number, last_number, next_number}
 use Rattle.store_core.specs.Histories.{next, after_outcome}
 use Rattle.store_core.specs.Newest.{replay_back}
 use Rattle.store_core.proofs.NewestLaws.{newest-first, oldest-last, replay_back-oldest}
 use Rattle.state_core.specs.Lists.{Among}
 use Rattle.state_core.proofs.ListLemmas.{bool_cases, each_append, each_front}
-use Rattle.history_core.specs.Histories.{commits, took_effect}
+use Rattle.history_core.specs.Histories.{took_effect}
 use Rattle.history_core.specs.Walks.{Walked, number_given, after_given, walk_call, walk_entry, walk_back}
 use Rattle.history_core.specs.Accepting.{takes_cas, CommitsAt, FirstCommits}
 use Rattle.history_core.proofs.Entries.{key_same}

@@ -5,11 +5,12 @@ use Rattle.store_core.specs.declared.calls.Call.{Call}
 use Rattle.store_core.specs.declared.calls.Call.TheVariants as calls
 use Rattle.store_core.specs.declared.outcomes.Outcome.{Outcome}
 use Rattle.store_core.specs.declared.entries.Entry.{Entry}
+use Rattle.store_core.specs.Changes.{commits}
 use Rattle.store_core.specs.Stores.{Stored}
 use Rattle.store_core.specs.Histories.{faults_of}
 use Rattle.store_core.specs.Newest.{replay_back}
 use Rattle.state_core.specs.States.{ShardState}
-use Rattle.history_core.specs.Histories.{same_shard, commits, took_effect}
+use Rattle.history_core.specs.Histories.{same_shard, took_effect}
 use Rattle.history_core.specs.Legal.{snapshot_keys, step_keys}
 
 -- whether a call that comes to a store commits a version of the shard

@@ -1,5 +1,5 @@
 -- What replies show, and the versions that ever were. A client's own entries go newest first.
-use Rattle.std.specs.Prelude.{◌≡◌, ℕ, ◌+◌, Bool, true, false, Option, Some, None, List, [], ◌∷◌, ◌==◌, if◌then◌else◌, ◌&&◌, not}
+use Rattle.std.specs.Prelude.{◌≡◌, ℕ, ◌+◌, Bool, true, false, Option, Some, None, List, [], ◌∷◌, ◌==◌, if◌then◌else◌, ◌&&◌}
 use Rattle.std.specs.Ordering.{is_eq}
 use Rattle.state_core.specs.Lists.{Among}
 use Rattle.store_core.specs.declared.shards.ShardId.{ShardId}
@@ -10,7 +10,8 @@ use Rattle.store_core.specs.declared.replies.Reply.TheVariants as replies
 use Rattle.store_core.specs.declared.outcomes.Outcome.{Outcome}
 use Rattle.store_core.specs.declared.outcomes.Outcome.TheVariants.{Took, FailedTook, FailedLost}
 use Rattle.store_core.specs.declared.entries.Entry.{Entry}
-use Rattle.store_core.specs.Stores.{Log, Stored, shard_cmp, same_number, last_number, is_last_number, committed}
+use Rattle.store_core.specs.Changes.{commits}
+use Rattle.store_core.specs.Stores.{Log, Stored, shard_cmp, committed}
 use Rattle.store_core.specs.Ports.{Answered}
 use Rattle.store_core.specs.Newest.{replay_back}
 
@@ -26,10 +27,6 @@ bytes_from first (v ∷ vs) n = if n == first then Some v else bytes_from (first
 -- the bytes of version n, where it is live
 abbrev pub version_at : Log → ℕ → Option (List ℕ)
 version_at log n = bytes_from log.first log.versions n
-
--- whether a Cas that expects this number commits
-abbrev pub commits : Log → Option ℕ → Bool
-commits log expected = same_number expected (last_number log) && not (is_last_number expected)
 
 -- whether a call with this outcome took effect
 abbrev pub took_effect : Outcome → Bool

@@ -7,6 +7,7 @@ use Rattle.store_core.specs.declared.replies.Reply.{Reply}
 use Rattle.store_core.specs.declared.replies.Reply.TheVariants as replies
 use Rattle.store_core.specs.declared.outcomes.Outcome.TheVariants.{Took}
 use Rattle.store_core.specs.declared.entries.Entry.{Entry}
+use Rattle.store_core.specs.Changes.{commits}
 use Rattle.store_core.specs.Stores.{Stored}
 use Rattle.store_core.specs.Histories.{reply}
 use Rattle.store_core.specs.Newest.{replay_back}
@@ -14,7 +15,7 @@ use Rattle.state_core.specs.declared.transitions.Transition.{Transition}
 use Rattle.state_core.specs.Lists.{Among}
 use Rattle.state_core.specs.States.{ShardState}
 use Rattle.state_core.specs.VersionReading.{version_in}
-use Rattle.history_core.specs.Histories.{took_effect, commits}
+use Rattle.history_core.specs.Histories.{took_effect}
 use Rattle.history_core.specs.Discipline.{IsCasUnder, IsGot}
 
 -- an entry, and the entries before it

@@ -4,6 +4,7 @@ use Rattle.store_core.specs.declared.shards.ShardId.{ShardId}
 use Rattle.store_core.specs.declared.calls.Call.{Call}
 use Rattle.store_core.specs.declared.calls.Call.TheVariants as calls
 use Rattle.store_core.specs.declared.entries.Entry.{Entry}
+use Rattle.store_core.specs.Changes.{commits}
 use Rattle.store_core.specs.Stores.{Stored}
 use Rattle.store_core.specs.Histories.{History}
 use Rattle.store_core.specs.Newest.{replay_back}
@@ -11,7 +12,7 @@ use Rattle.state_core.specs.declared.transitions.Transition.{Transition}
 use Rattle.state_core.specs.declared.transitions.Transition.TheVariants.{Append, Merge}
 use Rattle.state_core.specs.States.{ShardState}
 use Rattle.state_core.specs.VersionReading.{version_in}
-use Rattle.history_core.specs.Histories.{commits, took_effect, same_shard}
+use Rattle.history_core.specs.Histories.{took_effect, same_shard}
 
 -- whether a version's transition spends this token of this member
 abbrev pub is_spending : Option (ShardState × Transition) → ℕ → ℕ → Bool

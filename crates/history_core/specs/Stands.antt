@@ -9,6 +9,7 @@ use Rattle.store_core.specs.declared.part_keys.PartKey.{PartKey}
 use Rattle.store_core.specs.declared.calls.Call.{Call}
 use Rattle.store_core.specs.declared.calls.Call.TheVariants as calls
 use Rattle.store_core.specs.declared.entries.Entry.{Entry}
+use Rattle.store_core.specs.Changes.{commits}
 use Rattle.store_core.specs.Stores.{Log, Stored, no_log}
 use Rattle.store_core.specs.Histories.{History}
 use Rattle.store_core.specs.Newest.{replay_back}
@@ -20,7 +21,7 @@ use Rattle.state_core.specs.States.{ShardState, floor, Names, KeyFits}
 use Rattle.state_core.specs.Steps.{Applies, Takes, init}
 use Rattle.state_core.specs.VersionReading.{version_in}
 use Rattle.history_core.specs.Readings.{rows_in}
-use Rattle.history_core.specs.Histories.{version_at, commits, took_effect, same_shard}
+use Rattle.history_core.specs.Histories.{version_at, took_effect, same_shard}
 use Rattle.history_core.specs.Discipline.{Hold}
 
 -- the state and transition that version n holds, where it is there

@@ -237,6 +237,6 @@ adds_failed client (Some h) b call r x failed =
     subst (λ (v : Option History). IfSome v EndsInFailure) (sym x.1)
     (record { front = h.trail; last = e; trail = refl; failed = failed_outcome (store_after h) e (sym x.2 ∙ failed) })
 
--- the loan of a port tells where others came last
-pub loan_kept : (b d : Option History) (m n client : ℕ) → Some (others_until d m) ≡ Some (others_until b n) → m ≡ n → n ≡ client → others_until d client ≡ others_until b client
-loan_kept b d m n client loan same is = cc
+-- what a port keeps tells where others came last
+pub others_kept : (b d : Option History) (m n client : ℕ) → others_until d m ≡ others_until b n → m ≡ n → n ≡ client → others_until d client ≡ others_until b client
+others_kept b d m n client kept same is = cc

@@ -10,13 +10,14 @@ use Rattle.store_core.specs.declared.calls.Call.TheVariants as calls
 use Rattle.store_core.specs.declared.outcomes.Outcome.{Outcome}
 use Rattle.store_core.specs.declared.outcomes.Outcome.TheVariants.{Took, FailedTook, FailedLost}
 use Rattle.store_core.specs.declared.entries.Entry.{Entry}
+use Rattle.store_core.specs.Changes.{commits}
 use Rattle.store_core.specs.Stores.{Stored, no_log, same_number, last_number, is_last_number, next_number}
 use Rattle.store_core.specs.Histories.{reply, reply_by}
 use Rattle.store_core.specs.Newest.{replay_back}
 use Rattle.state_core.specs.Lists.{Among}
 use Rattle.state_core.specs.States.{ShardState}
 use Rattle.state_core.proofs.ListLemmas.{bool_cases}
-use Rattle.history_core.specs.Histories.{same_shard, commits}
+use Rattle.history_core.specs.Histories.{same_shard}
 use Rattle.history_core.specs.Stands.{accepted}
 use Rattle.history_core.specs.Laws.{LastIs}
 use Rattle.history_core.specs.Legal.{collection_in}

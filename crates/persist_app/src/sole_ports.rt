@@ -1,5 +1,5 @@
 // The port of a store that nobody else calls.
-ghost use Rattle.std.specs.Prelude.{◌≡◌, ◌≢◌, ◌<◌, ◌≤◌, Some, Ok, IfOk, OnErr};
+ghost use Rattle.std.specs.Prelude.{◌≡◌, ◌≢◌, ◌<◌, ◌≤◌, ℕ, Ok, IfOk, OnErr};
 ghost use Rattle.causes.specs.Causes.{Rose};
 ghost use Rattle.store_core.specs.Ports.{Sees, GrowsByOthers, IsTurnFor, IsFailure};
 ghost use Rattle.persist_app.specs.Goings.{others_until};
@@ -24,7 +24,9 @@ impl<S: Store> Port for SolePort<S> {
     ghost misses = { λ _. 0 };
 
     // Where the client's newest entries begin. It stays exactly where no entry of another comes.
-    ghost loan = { λ p. Some (others_until (S.history p.store) p.client) };
+    ghost Kept = { ℕ };
+
+    ghost kept = { λ p. others_until (S.history p.store) p.client };
 
     /// The store's reply: one entry and no other. It is never `Busy`, and fails only for want of memory.
     #[tactic(auto, using(crate::proofs::GoingLaws::added))]
@@ -37,7 +39,7 @@ impl<S: Store> Port for SolePort<S> {
         ensures misses { 0 ≤ 0 }
         ensures cause { IfOk result (λ turn. IsFailure turn → Rose (S.faults self.old.store) (S.faults self.new.store)) }
         ensures faults { S.faults self.old.store ≤ S.faults self.new.store }
-        ensures loan { Some (others_until (S.history self.new.store) self.new.client) ≡ Some (others_until (S.history self.old.store) self.old.client) }
+        ensures kept { others_until (S.history self.new.store) self.new.client ≡ others_until (S.history self.old.store) self.old.client }
     {
         DirectPort::new(&mut self.store, self.client).try_call(call)
     }

@@ -260,7 +260,7 @@ impl Reader {
         ensures faults { P.faults port.old ≤ P.faults port.new }
         ensures misses { P.misses port.old ≤ P.misses port.new }
         ensures client { P.client port.new ≡ P.client port.old }
-        ensures loan { P.loan port.new ≡ P.loan port.old }
+        ensures kept { P.kept port.new ≡ P.kept port.old }
     {
         machine_core::poll(self, alloc, port)
     }

@@ -1,7 +1,7 @@
 -- Laws of numbered versions.
-use Rattle.std.proofs.Common.{◌≡◌, ℕ, zero, suc, ◌+◌, ◌<◌, Bool, true, false, cond, Some, List, [], ◌∷◌, ◌++◌, length, get_or, drop, sym, ap, ◌∙◌, arith, append_assoc}
-use Rattle.std.specs.List.{filter}
-use Rattle.std.proofs.lemmas.List.{at_drop_more}
+use Rattle.std.proofs.Common.{◌≡◌, ℕ, zero, suc, ◌+◌, ◌-◌, ◌<◌, ◌≤◌, true, false, cond, min, Some, List, [], ◌∷◌, length, get_or, drop, refl, ap, ◌∙◌, arith}
+use Rattle.std.specs.Prelude.{filter, nat_le}
+use Rattle.std.proofs.lemmas.Bool.Decides.{nat_tests}
 use Rattle.store_core.specs.declared.versions.Version.{Version}
 use Rattle.store_core.specs.Stores.{numbered, last_of}
 
@@ -14,26 +14,25 @@ last_of-numbered n (b ∷ c ∷ bs) (suc m) d h =
     let sum : n + 1 + m ≡ n + suc m = omega arith in
     last_of-numbered (n + 1) (c ∷ bs) m d (omega arith) ∙ ap (λ k. Some (record { number = k; bytes = get_or (c ∷ bs) m d })) sum
 
-abbrev pub numbered_at : ℕ → ℕ → List ℕ → Version
-numbered_at n i x = record { number = n + i; bytes = x }
+-- no version is below from
+all_pass : (from n : ℕ) (vs : List (List ℕ)) → from ≤ n → filter (λ v. nat_le from v.number) (numbered n vs) ≡ numbered n vs
+all_pass from n [] h = refl
+all_pass from n (b ∷ bs) h =
+    let is : nat_le from n ≡ true = grind (arith, nat_tests) in
+    let this : Version = record { number = n; bytes = b } in
+    let rest = filter (λ v. nat_le from v.number) (numbered (n + 1) bs) in
+    ap (λ t. cond t (this ∷ rest) rest) is ∙ ap (λ l. this ∷ l) (all_pass from (n + 1) bs (omega arith))
 
-module _ (p : Version → Bool) (n : ℕ) (vs : List (List ℕ)) (i : ℕ) (x : List ℕ) (found all : List Version) (below : i < length vs) (here : x ≡ get_or vs i x)
-    (so_far : found ++ filter p (numbered (n + i) (drop i vs)) ≡ all) where
-  rest : List Version
-  rest = filter p (numbered (n + (i + 1)) (drop (i + 1) vs))
-
-  opened : filter p (numbered (n + i) (drop i vs)) ≡ cond (p (numbered_at n i x)) (numbered_at n i x ∷ rest) rest
-  unfolding rest
-  opened =
-      let later : n + i + 1 ≡ n + (i + 1) = omega arith in
-      at_drop_more (λ xs. filter p (numbered (n + i) xs)) vs i x below
-      ∙ ap (λ y. filter p (record { number = n + i; bytes = y } ∷ numbered (n + i + 1) (drop (i + 1) vs))) (sym here)
-      ∙ ap (λ k. cond (p (numbered_at n i x)) (numbered_at n i x ∷ filter p (numbered k (drop (i + 1) vs))) (filter p (numbered k (drop (i + 1) vs)))) later
-
-  pub scan_keeps : p (numbered_at n i x) ≡ true → (found ++ numbered_at n i x ∷ []) ++ filter p (numbered (n + (i + 1)) (drop (i + 1) vs)) ≡ all
-  unfolding rest
-  scan_keeps is = append_assoc found (numbered_at n i x ∷ []) rest ∙ ap (λ l. found ++ l) (sym (opened ∙ ap (λ b. cond b (numbered_at n i x ∷ rest) rest) is)) ∙ so_far
-
-  pub scan_passes : p (numbered_at n i x) ≡ false → found ++ filter p (numbered (n + (i + 1)) (drop (i + 1) vs)) ≡ all
-  unfolding rest
-  scan_passes is = ap (λ l. found ++ l) (sym (opened ∙ ap (λ b. cond b (numbered_at n i x ∷ rest) rest) is)) ∙ so_far
+-- the versions from a number on begin at its place
+pub scan_begins : (from n : ℕ) (vs : List (List ℕ)) (place : ℕ) → place ≡ min (from - n) (length vs) →
+    filter (λ v. nat_le from v.number) (numbered n vs) ≡ numbered (n + place) (drop place vs)
+scan_begins from n [] zero h = refl
+scan_begins from n [] (suc k) h = absurd (omega arith)
+scan_begins from n (b ∷ bs) zero h = all_pass from n (b ∷ bs) (omega arith) ∙ ap (λ k. numbered k (b ∷ bs)) (omega arith)
+scan_begins from n (b ∷ bs) (suc k) h =
+    let later : n < from = omega arith in
+    let is : nat_le from n ≡ false = grind (arith, nat_tests) in
+    let this : Version = record { number = n; bytes = b } in
+    let rest = filter (λ v. nat_le from v.number) (numbered (n + 1) bs) in
+    let place : k ≡ min (from - (n + 1)) (length bs) = omega arith in
+    ap (λ t. cond t (this ∷ rest) rest) is ∙ scan_begins from (n + 1) bs k place ∙ ap (λ m. numbered m (drop k bs)) (omega arith)

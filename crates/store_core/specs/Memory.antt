@@ -7,7 +7,7 @@ use Rattle.store_core.specs.Histories.{History}
 
 -- its start and the entries since then
 abbrev pub history_of : MemStore → History
-history_of m = record { start = stored_of m.start; trail = m.trail.items }
+history_of m = record { start = stored_of m.start.value; trail = m.trail.items }
 
 -- a store in memory tells its history always
 abbrev pub told : MemStore → Option History

@@ -1,5 +1,5 @@
 // Blobs in order, each with its key.
-ghost use Rattle.std.specs.Prelude.{◌≡◌, [], ◌∷◌, ◌++◌, OnOk, OnErr};
+ghost use Rattle.std.specs.Prelude.{◌≡◌, [], ◌∷◌, ◌++◌, IfOk, OnOk, OnErr};
 
 use crate::byte_strings::Bytes;
 use crate::part_keys::PartKey;
@@ -21,6 +21,17 @@ impl Model for BlobList {
     ghost view = { λ l. l.items.items };
 }
 
+// An equal table.
+fn copied(alloc: Global, items: &[(PartKey, Bytes)]) -> Result<Vec<(PartKey, Bytes)>, AllocError>
+    ensures { IfOk result (λ copy. copy.items ≡ items.now) }
+{
+    let mut copy = Vec::with_capacity(alloc, items.len())?;
+    for item in items {
+        copy.push((item.0, item.1.copy()?))?;
+    }
+    Ok(copy)
+}
+
 impl BlobList {
     /// The empty list, which takes no memory.
     pub fn new(alloc: Global) -> BlobList
@@ -38,6 +49,14 @@ impl BlobList {
     {
         self.items.push(item)?;
         Ok(())
+    }
+
+    /// An equal list. It fails only for want of memory.
+    pub fn copy(&self, alloc: Global) -> Result<BlobList, AllocError>
+        ensures { IfOk result (λ copy. copy ≡ self.now) }
+    {
+        let items = copied(alloc, &self.items)?;
+        Ok(BlobList { items })
     }
 
     /// The items in order.

@@ -1,5 +1,5 @@
 // Byte strings in order.
-ghost use Rattle.std.specs.Prelude.{◌≡◌, [], ◌∷◌, ◌++◌, OnOk, OnErr};
+ghost use Rattle.std.specs.Prelude.{◌≡◌, [], ◌∷◌, ◌++◌, IfOk, OnOk, OnErr};
 
 use crate::byte_strings::Bytes;
 use std::alloc::{AllocError, Global};
@@ -19,6 +19,17 @@ impl Model for BytesList {
     ghost view = { λ l. l.items.items };
 }
 
+// An equal table.
+fn copied(alloc: Global, items: &[Bytes]) -> Result<Vec<Bytes>, AllocError>
+    ensures { IfOk result (λ copy. copy.items ≡ items.now) }
+{
+    let mut copy = Vec::with_capacity(alloc, items.len())?;
+    for item in items {
+        copy.push(item.copy()?)?;
+    }
+    Ok(copy)
+}
+
 impl BytesList {
     /// The empty list, which takes no memory.
     pub fn new(alloc: Global) -> BytesList
@@ -36,6 +47,14 @@ impl BytesList {
     {
         self.items.push(item)?;
         Ok(())
+    }
+
+    /// An equal list. It fails only for want of memory.
+    pub fn copy(&self, alloc: Global) -> Result<BytesList, AllocError>
+        ensures { IfOk result (λ copy. copy ≡ self.now) }
+    {
+        let items = copied(alloc, &self.items)?;
+        Ok(BytesList { items })
     }
 
     /// The items in order.

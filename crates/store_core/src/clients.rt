@@ -44,7 +44,7 @@ impl Fetch {
         ensures cause { IfOk result (λ turn. IsFailure turn → Rose (P.faults port.old) (P.faults port.new)) }
         ensures later { P.faults port.old ≤ P.faults port.new }
         ensures client { P.client port.new ≡ P.client port.old }
-        ensures loan { P.loan port.new ≡ P.loan port.old }
+        ensures kept { P.kept port.new ≡ P.kept port.old }
     {
         let call = self.next_call();
         let turn = port.try_call(&call)?;

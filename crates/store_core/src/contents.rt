@@ -2,6 +2,7 @@
 ghost use Rattle.std.specs.Prelude.{◌≡◌, ◌<◌, ◌+◌, ◌^◌, None, Some, IsSome, IfOk, OnOk, OnErr, filter, nat_le, length};
 ghost use Rattle.std.specs.BTreeMap.{get};
 ghost use Rattle.store_core.specs.Stores.{key_cmp, shard_cmp, reply_of, after_call, live, last_of, truncated, committed, cas_reply, cas_log, set_at, empty_store};
+ghost use Rattle.store_core.specs.Changes.{changes, commits};
 ghost use Rattle.store_core.specs.Contents.{blobs_of, logs_of, stored_of};
 
 use crate::byte_strings::Bytes;
@@ -161,7 +162,23 @@ fn cas(
     }
 }
 
+// Whether a Cas that expects this number commits.
+fn commits(logs: &BTreeMap<ShardId, ShardLog>, shard: &ShardId, expected: Option<u64>) -> bool
+    ensures { result ≡ commits (logs_of logs.now shard.now) expected }
+{
+    let last = match logs.get(shard) {
+        Some(log) => Some(log.last_number()),
+        None => None,
+    };
+    match (last, expected) {
+        (None, None) => true,
+        (Some(last), Some(number)) => last == number && number != u64::MAX,
+        _ => false,
+    }
+}
+
 impl Contents {
+    /// Nothing: no key has bytes, and no shard has a version. It takes no memory.
     pub fn new(alloc: Global) -> Contents
         ensures empty { stored_of result ≡ empty_store }
         ensures logs { get shard_cmp result.logs ≡ (λ _. None) }
@@ -172,7 +189,23 @@ impl Contents {
         }
     }
 
-    /// The reply of a call that takes effect, and its effect.
+    /// Whether a call would change what is kept: a Cas that commits, and each Truncate, Set and Delete, also one that finds
+    /// nothing to do.
+    pub fn changes(&self, call: &Call) -> bool
+        ensures { result ≡ changes (stored_of self.now) call.now }
+    {
+        match call {
+            Call::Cas {
+                shard,
+                expected,
+                ..
+            } => commits(&self.logs, shard, *expected),
+            Call::Truncate { .. } | Call::Set { .. } | Call::Delete { .. } => true,
+            Call::Head { .. } | Call::Scan { .. } | Call::Get { .. } => false,
+        }
+    }
+
+    /// The reply of a call that takes effect, and its effect. It fails only for want of memory, and nothing changes then.
     pub fn apply(&mut self, alloc: Global, call: &Call) -> Result<Reply, AllocError>
         ensures reply { IfOk result (λ r. r ≡ reply_of (stored_of self.old) call.now) }
         ensures ok { OnOk result (stored_of self.new ≡ after_call (stored_of self.old) call.now) }

@@ -1,5 +1,6 @@
 // The port of a store's one client.
-ghost use Rattle.std.specs.Prelude.{◌≡◌, ◌≢◌, ◌<◌, ◌≤◌, Some, Ok, IfOk, OnErr};
+ghost use Rattle.std.specs.Prelude.{◌≡◌, ◌≢◌, ◌<◌, ◌≤◌, Ok, IfOk, OnErr};
+ghost use Rattle.std.specs.Borrow.{GName};
 ghost use Rattle.causes.specs.Causes.{Rose};
 ghost use Rattle.store_core.specs.Ports.{AddsTurn, Sees, GrowsByOthers, IsTurnFor, IsFailure};
 
@@ -12,8 +13,8 @@ use std::alloc::AllocError;
 /// The way of the one client of a store: the store, and the number that the client's entries carry.
 #[derive(Drop)]
 pub struct DirectPort<'a, S: Store> {
-    pub store: &'a mut S,
-    pub client: u64,
+    pub(crate) store: &'a mut S,
+    pub(crate) client: u64,
 }
 
 impl<'a, S: Store> DirectPort<'a, S> {
@@ -38,7 +39,10 @@ impl<'a, S: Store> Port for DirectPort<'a, S> {
 
     ghost misses = { λ _. 0 };
 
-    ghost loan = { λ p. Some p.store.ghost_name };
+    // The name of the loan that it holds, so that the lender learns what became of its store.
+    ghost Kept = { GName };
+
+    ghost kept = { λ p. p.store.ghost_name };
 
     /// The store's reply: one entry and no other. It is never `Busy`, and fails only for want of memory.
     #[tactic(auto, using(crate::proofs::PortLaws::gains_where_added))]
@@ -55,7 +59,7 @@ impl<'a, S: Store> Port for DirectPort<'a, S> {
         ensures misses { 0 ≤ 0 }
         ensures cause { IfOk result (λ turn. IsFailure turn → Rose (S.faults self.old.store.now) (S.faults self.new.store.now)) }
         ensures faults { S.faults self.old.store.now ≤ S.faults self.new.store.now }
-        ensures loan { self.new.store.ghost_name ≡ self.old.store.ghost_name }
+        ensures kept { self.new.store.ghost_name ≡ self.old.store.ghost_name }
     {
         let reply = self.store.call(self.client, call)?;
         Ok(Turn::Reply(reply))

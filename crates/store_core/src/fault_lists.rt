@@ -1,5 +1,5 @@
 // Faults in order.
-ghost use Rattle.std.specs.Prelude.{◌≡◌, [], ◌∷◌, ◌++◌, OnOk, OnErr};
+ghost use Rattle.std.specs.Prelude.{◌≡◌, [], ◌∷◌, ◌++◌, IfOk, OnOk, OnErr};
 ghost use Rattle.store_core.specs.Faults.{outcome_at};
 
 use crate::faults::FaultAt;
@@ -54,6 +54,14 @@ impl FaultList {
     {
         self.items.push(item)?;
         Ok(())
+    }
+
+    /// An equal list. It fails only for want of memory.
+    pub fn copy(&self, alloc: Global) -> Result<FaultList, AllocError>
+        ensures { IfOk result (λ copy. copy ≡ self.now) }
+    {
+        let items = self.items.to_vec(alloc)?;
+        Ok(FaultList { items })
     }
 
     /// The items in order.

@@ -29,6 +29,7 @@ pub use blob_lists::BlobList;
 pub use byte_lists::BytesList;
 pub use byte_strings::Bytes;
 pub use calls::Call;
+pub use contents::Contents;
 pub use direct_ports::DirectPort;
 pub use entries::Entry;
 pub use fault_lists::FaultList;

@@ -17,21 +17,22 @@ use crate::fault_lists::FaultList;
 use crate::outcomes::Outcome;
 use crate::replies::Reply;
 use crate::shard_lists::ShardList;
-use crate::starting::{Twice, starting_twice};
+use crate::starting::starting_contents;
 use crate::stores::Store;
 use causes::one_more;
 use std::alloc::{AllocError, Global};
+use std::snapshot::Snapshot;
 
-/// A store in memory, with what it has been asked.
+/// A store in memory, with what it has been asked. What it started with is known to proofs alone.
 #[derive(Drop)]
 pub struct MemStore {
     alloc: Global,
     faults: FaultList,
     failed: u64,
-    start: Contents,
+    start: Snapshot<Contents>,
     current: Contents,
     trail: Vec<Entry>,
-    ghost replayed: { stored_of current ≡ replay (stored_of start) trail.items },
+    ghost replayed: { stored_of current ≡ replay (stored_of start.value) trail.items },
 }
 
 // The count of failed calls after one with this outcome.
@@ -76,14 +77,7 @@ impl MemStore {
         ensures faults { listed_faults result ≡ faults }
         ensures failed { failed_calls result ≡ 0 }
     {
-        MemStore {
-            alloc,
-            faults,
-            failed: 0,
-            start: Contents::new(alloc),
-            current: Contents::new(alloc),
-            trail: Vec::new(alloc),
-        }
+        MemStore::from_contents(alloc, Contents::new(alloc), faults)
     }
 
     /// A store that starts with these blobs and these shards' versions, and fails at the listed calls. It fails only for
@@ -101,15 +95,25 @@ impl MemStore {
         ensures faults { IfOk result (λ store. listed_faults store ≡ faults) }
         ensures failed { IfOk result (λ store. failed_calls store ≡ 0) }
     {
-        let Twice { first, second } = starting_twice(alloc, blobs, shards)?;
-        Ok(MemStore {
+        let contents = starting_contents(alloc, blobs, shards)?;
+        Ok(MemStore::from_contents(alloc, contents, faults))
+    }
+
+    // A store that starts with these contents. It takes no memory.
+    fn from_contents(alloc: Global, contents: Contents, faults: FaultList) -> MemStore
+        ensures history { history_of result ≡ record { start = stored_of contents; trail = [] } }
+        ensures faults { listed_faults result ≡ faults }
+        ensures failed { failed_calls result ≡ 0 }
+    {
+        let start = Snapshot::of(&contents);
+        MemStore {
             alloc,
             faults,
             failed: 0,
-            start: first,
-            current: second,
+            start,
+            current: contents,
             trail: Vec::new(alloc),
-        })
+        }
     }
 
     /// The calls that it has answered, in order.

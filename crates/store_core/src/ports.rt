@@ -1,6 +1,5 @@
 // The trait of a port.
 ghost use Rattle.std.specs.Prelude.{◌≡◌, ◌<◌, ◌≤◌, ℕ, Option, Ok, IfOk, OnErr};
-ghost use Rattle.std.specs.Borrow.{GName};
 ghost use Rattle.causes.specs.Causes.{Rose};
 ghost use Rattle.store_core.specs.Histories.{History};
 ghost use Rattle.store_core.specs.Ports.{Sees, GrowsByOthers, IsTurnFor, IsFailure};
@@ -23,8 +22,11 @@ pub trait Port {
     /// How often a call found the store taken.
     ghost misses: { Self → ℕ };
 
-    /// The name of the loan that it holds, where it holds one.
-    ghost loan: { Self → Option GName };
+    /// What no call changes, which its owner needs to have back what the port was made of.
+    ghost Kept: { Type 0 };
+
+    /// That of a port.
+    ghost kept: { Self → Kept };
 
     /// Asks the store once, or finds it taken. It fails only for want of memory.
     fn try_call(&mut self, call: &Call) -> Result<Turn, AllocError>
@@ -38,6 +40,6 @@ pub trait Port {
         ensures cause { IfOk result (λ turn. IsFailure turn → Rose (faults self.old) (faults self.new)) }
         ensures faults { faults self.old ≤ faults self.new }
         ensures misses { misses self.old ≤ misses self.new }
-        // It holds the same loan, so that the lender learns what became of it.
-        ensures loan { loan self.new ≡ loan self.old };
+        // Its owner knows again what it was made of.
+        ensures kept { kept self.new ≡ kept self.old };
 }

@@ -1,5 +1,5 @@
 // Shards in order, each with the number of its first version and the bytes of its versions.
-ghost use Rattle.std.specs.Prelude.{◌≡◌, [], ◌∷◌, ◌++◌, OnOk, OnErr};
+ghost use Rattle.std.specs.Prelude.{◌≡◌, [], ◌∷◌, ◌++◌, IfOk, OnOk, OnErr};
 
 use crate::byte_lists::BytesList;
 use crate::shards::ShardId;
@@ -21,6 +21,20 @@ impl Model for ShardList {
     ghost view = { λ l. l.items.items };
 }
 
+// An equal table.
+fn copied(
+    alloc: Global,
+    items: &[(ShardId, u64, BytesList)],
+) -> Result<Vec<(ShardId, u64, BytesList)>, AllocError>
+    ensures { IfOk result (λ copy. copy.items ≡ items.now) }
+{
+    let mut copy = Vec::with_capacity(alloc, items.len())?;
+    for item in items {
+        copy.push((item.0, item.1, item.2.copy(alloc)?))?;
+    }
+    Ok(copy)
+}
+
 impl ShardList {
     /// The empty list, which takes no memory.
     pub fn new(alloc: Global) -> ShardList
@@ -38,6 +52,14 @@ impl ShardList {
     {
         self.items.push(item)?;
         Ok(())
+    }
+
+    /// An equal list. It fails only for want of memory.
+    pub fn copy(&self, alloc: Global) -> Result<ShardList, AllocError>
+        ensures { IfOk result (λ copy. copy ≡ self.now) }
+    {
+        let items = copied(alloc, &self.items)?;
+        Ok(ShardList { items })
     }
 
     /// The items in order.

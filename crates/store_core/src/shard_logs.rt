@@ -1,5 +1,5 @@
 // The versions of one shard.
-ghost use Rattle.std.specs.Prelude.{◌≡◌, ◌<◌, ◌≤◌, ◌+◌, ◌^◌, [], ◌∷◌, length, drop, filter, nat_le, IfOk, OnOk, OnErr, Some};
+ghost use Rattle.std.specs.Prelude.{◌≡◌, ◌<◌, ◌≤◌, ◌+◌, ◌-◌, ◌^◌, [], ◌∷◌, min, length, drop, filter, nat_le, IfOk, OnOk, OnErr, Some};
 ghost use Rattle.store_core.specs.Stores.{live, numbered, last_of, last_number, committed, truncated};
 
 use crate::byte_strings::Bytes;
@@ -27,24 +27,36 @@ impl Model for ShardLog {
     ghost invariant = { λ l. (0 < length l.versions.items) × (l.first + length l.versions.items ≤ 2 ^ 64) };
 }
 
-fn scanned(
+// The versions from a place on, of versions that are numbered from first on.
+fn versions_from(
     alloc: Global,
     first: u64,
     versions: &VecDeque<Bytes>,
-    from: u64,
+    start: usize,
 ) -> Result<VersionList, AllocError>
-    requires { first + length versions.now.items ≤ 2 ^ 64 }
-    ensures { IfOk result (λ found. found ≡ filter (λ v. nat_le from v.number) (numbered first versions.now.items)) }
+    requires place { start ≤ length versions.now.items }
+    requires fits { first + length versions.now.items ≤ 2 ^ 64 }
+    ensures { IfOk result (λ found. found ≡ numbered (first + start) (drop start versions.now.items)) }
 {
-    let mut found = VersionList::new(alloc);
-    for i in 0..versions.len() {
+    let mut found = VersionList::with_capacity(alloc, versions.len() - start)?;
+    for i in start..versions.len() {
+        let bytes = versions[i].copy()?;
         let number = first + i as u64;
-        if from <= number {
-            let bytes = versions[i].copy()?;
-            found.push(Version { number, bytes })?;
-        }
+        found.push(Version { number, bytes })?;
     }
     Ok(found)
+}
+
+// The place of the first version whose number isn't below from, or else past the last.
+fn place_of(first: u64, count: usize, from: u64) -> usize
+    ensures { result ≡ min (from - first) count }
+{
+    let before = from.saturating_sub(first);
+    if before < count as u64 {
+        before as usize
+    } else {
+        count
+    }
 }
 
 fn last_version(first: u64, versions: &VecDeque<Bytes>) -> Result<Version, AllocError>
@@ -68,14 +80,18 @@ fn drop_front(versions: &mut VecDeque<Bytes>, count: usize)
     }
 }
 
-fn copied(alloc: Global, versions: &VecDeque<Bytes>) -> Result<VecDeque<Bytes>, AllocError>
-    ensures { IfOk result (λ copy. copy.items ≡ versions.now.items) }
+// The versions whose number isn't below from, of versions that are numbered from first on.
+fn scanned(
+    alloc: Global,
+    first: u64,
+    versions: &VecDeque<Bytes>,
+    from: u64,
+) -> Result<VersionList, AllocError>
+    requires { first + length versions.now.items ≤ 2 ^ 64 }
+    ensures { IfOk result (λ found. found ≡ filter (λ v. nat_le from v.number) (numbered first versions.now.items)) }
 {
-    let mut copy = VecDeque::new(alloc);
-    for i in 0..versions.len() {
-        copy.push_back(versions[i].copy()?)?;
-    }
-    Ok(copy)
+    let start = place_of(first, versions.len(), from);
+    versions_from(alloc, first, versions, start)
 }
 
 impl ShardLog {
@@ -86,16 +102,6 @@ impl ShardLog {
         ensures { result ≡ record { first = first; versions = versions.items } }
     {
         ShardLog { first, versions }
-    }
-
-    pub fn copy(&self, alloc: Global) -> Result<ShardLog, AllocError>
-        ensures { IfOk result (λ l. l ≡ self.now) }
-    {
-        let versions = copied(alloc, &self.versions)?;
-        Ok(ShardLog {
-            first: self.first,
-            versions,
-        })
     }
 
     pub fn one(alloc: Global, bytes: Bytes) -> Result<ShardLog, AllocError>

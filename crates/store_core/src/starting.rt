@@ -18,25 +18,15 @@ use crate::shards::ShardId;
 use std::alloc::{AllocError, Global};
 use std::collections::{BTreeMap, VecDeque};
 
-/// The same contents twice.
-#[derive(Drop)]
-pub struct Twice {
-    pub first: Contents,
-    pub second: Contents,
-}
-
 fn fill_blobs(
-    first: &mut BTreeMap<PartKey, Bytes>,
-    second: &mut BTreeMap<PartKey, Bytes>,
+    into: &mut BTreeMap<PartKey, Bytes>,
     blobs: VecDeque<(PartKey, Bytes)>,
 ) -> Result<(), AllocError>
-    ensures first { OnOk result (get key_cmp first.new ≡ update_all same_key (get key_cmp first.old) blobs.items) }
-    ensures second { OnOk result (get key_cmp second.new ≡ update_all same_key (get key_cmp second.old) blobs.items) }
+    ensures { OnOk result (get key_cmp into.new ≡ update_all same_key (get key_cmp into.old) blobs.items) }
 {
     let mut rest = blobs;
     while let Some((key, bytes)) = rest.pop_front() {
-        set_blob(first, key, &bytes)?;
-        set_blob(second, key, &bytes)?;
+        set_blob(into, key, &bytes)?;
     }
     Ok(())
 }
@@ -50,49 +40,32 @@ fn log_of(first: u64, versions: BytesList) -> ShardLog
 }
 
 fn fill_logs(
-    alloc: Global,
-    first: &mut BTreeMap<ShardId, ShardLog>,
-    second: &mut BTreeMap<ShardId, ShardLog>,
+    into: &mut BTreeMap<ShardId, ShardLog>,
     shards: VecDeque<(ShardId, u64, BytesList)>,
 ) -> Result<(), AllocError>
     requires { AllByRecursion CanStart shards.items }
-    ensures first { OnOk result (get shard_cmp first.new ≡ update_all same_shard (get shard_cmp first.old) (map log_entry shards.items)) }
-    ensures second { OnOk result (get shard_cmp second.new ≡ update_all same_shard (get shard_cmp second.old) (map log_entry shards.items)) }
+    ensures { OnOk result (get shard_cmp into.new ≡ update_all same_shard (get shard_cmp into.old) (map log_entry shards.items)) }
 {
     let mut rest = shards;
     while let Some((shard, number, versions)) = rest.pop_front() {
-        let log = log_of(number, versions);
-        let copy = log.copy(alloc)?;
-        set_log(first, shard, copy)?;
-        set_log(second, shard, log)?;
+        set_log(into, shard, log_of(number, versions))?;
     }
     Ok(())
 }
 
-/// Contents with these blobs and shards, twice.
-pub fn starting_twice(
+/// Contents with these blobs and shards.
+pub fn starting_contents(
     alloc: Global,
     blobs: BlobList,
     shards: ShardList,
-) -> Result<Twice, AllocError>
+) -> Result<Contents, AllocError>
     requires keys { NoneTwice same_key (keys_of blobs) }
     requires shards { NoneTwice same_shard (shards_of shards) }
     requires versions { AllByRecursion CanStart shards }
-    ensures first { IfOk result (λ made. stored_of made.first ≡ starting_store blobs shards) }
-    ensures second { IfOk result (λ made. stored_of made.second ≡ starting_store blobs shards) }
+    ensures { IfOk result (λ made. stored_of made ≡ starting_store blobs shards) }
 {
-    let mut first = Contents::new(alloc);
-    let mut second = Contents::new(alloc);
-    fill_blobs(
-        &mut first.blobs,
-        &mut second.blobs,
-        VecDeque::from(blobs.into_items()),
-    )?;
-    fill_logs(
-        alloc,
-        &mut first.logs,
-        &mut second.logs,
-        VecDeque::from(shards.into_items()),
-    )?;
-    Ok(Twice { first, second })
+    let mut contents = Contents::new(alloc);
+    fill_blobs(&mut contents.blobs, VecDeque::from(blobs.into_items()))?;
+    fill_logs(&mut contents.logs, VecDeque::from(shards.into_items()))?;
+    Ok(contents)
 }

@@ -1,5 +1,5 @@
 // Versions in order.
-ghost use Rattle.std.specs.Prelude.{◌≡◌, [], ◌∷◌, ◌++◌, OnOk, OnErr};
+ghost use Rattle.std.specs.Prelude.{◌≡◌, [], ◌∷◌, ◌++◌, IfOk, OnOk, OnErr};
 
 use crate::versions::Version;
 use std::alloc::{AllocError, Global};
@@ -20,6 +20,17 @@ impl Model for VersionList {
     ghost view = { λ l. l.items.items };
 }
 
+// An equal table.
+fn copied(alloc: Global, items: &[Version]) -> Result<Vec<Version>, AllocError>
+    ensures { IfOk result (λ copy. copy.items ≡ items.now) }
+{
+    let mut copy = Vec::with_capacity(alloc, items.len())?;
+    for item in items {
+        copy.push(item.copy()?)?;
+    }
+    Ok(copy)
+}
+
 impl VersionList {
     /// The empty list, which takes no memory.
     pub fn new(alloc: Global) -> VersionList
@@ -30,6 +41,14 @@ impl VersionList {
         }
     }
 
+    /// The empty list, with room for so many. It fails only for want of memory.
+    pub(crate) fn with_capacity(alloc: Global, count: usize) -> Result<VersionList, AllocError>
+        ensures { IfOk result (λ list. list ≡ []) }
+    {
+        let items = Vec::with_capacity(alloc, count)?;
+        Ok(VersionList { items })
+    }
+
     /// One more at the end. Where memory is refused the list is as it was.
     pub fn push(&mut self, item: Version) -> Result<(), AllocError>
         ensures ok { OnOk result (self.new ≡ self.old ++ item ∷ []) }
@@ -37,6 +56,14 @@ impl VersionList {
     {
         self.items.push(item)?;
         Ok(())
+    }
+
+    /// An equal list. It fails only for want of memory.
+    pub fn copy(&self, alloc: Global) -> Result<VersionList, AllocError>
+        ensures { IfOk result (λ copy. copy ≡ self.now) }
+    {
+        let items = copied(alloc, &self.items)?;
+        Ok(VersionList { items })
     }
 
     /// The items in order.

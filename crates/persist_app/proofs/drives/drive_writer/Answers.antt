@@ -8,7 +8,7 @@ use Rattle.history_core.specs.declared.asked.Asked.{Asked}
 use Rattle.load_core.specs.Fronts.{Backwards, WhereLawful}
 use Rattle.write_client.specs.Polling.{CostAt}
 use Rattle.write_client.specs.Following.{FollowsWhere}
-use Rattle.persist_app.proofs.GoingLaws.{loan_kept}
+use Rattle.persist_app.proofs.GoingLaws.{others_kept}
 use Rattle.persist_app.specs.Drives.{Failed}
 use Rattle.persist_app.specs.Goings.{Goes}
 use Rattle.persist_app.proofs.WriteDrives.{as_cost, as_legal, as_polled, as_unpolled, writes_damaged, writes_done, writes_fault, writes_memory, writes_on, writes_spent, writes_start, writes_end}
@@ -41,7 +41,7 @@ returns-in_err-poll-clause-told g c =
     let a = g.S.Store.history c.args.port.now.store in
     let b = g.S.Store.history c.loop.port.store in
     let d = g.S.Store.history c.poll.new.port.store in
-    let sole = loan_kept b d c.poll.new.port.client c.loop.port.client 0 c.in_err-poll.ensures.loan c.in_err-poll.ensures.client c.loop.invariant.client in
+    let sole = others_kept b d c.poll.new.port.client c.loop.port.client 0 c.in_err-poll.ensures.kept c.in_err-poll.ensures.client c.loop.invariant.client in
     let went = writes_memory c.args.writer.now c.loop.writer c.poll.new.self a b d c.loop.invariant.so_far (as_unpolled c.loop.port.client b d c.loop.writer c.poll.new.self c.loop.invariant.client c.in_err-poll.ensures.memory) sole in
     let p = err_from_is_err_and c.from_residual.result c.from_residual.ensures.1 in
     rw p.1 (subst (λ (e : SessionFault). Goes a d (λ list start es now. Failed e start es now)) (sym p.2) went)
@@ -51,7 +51,7 @@ returns-in-Fault-clause-told g c =
     let a = g.S.Store.history c.args.port.now.store in
     let b = g.S.Store.history c.loop.port.store in
     let d = g.S.Store.history c.poll.new.port.store in
-    let sole = loan_kept b d c.poll.new.port.client c.loop.port.client 0 c.in_ok-poll.ensures.loan c.in_ok-poll.ensures.client c.loop.invariant.client in
+    let sole = others_kept b d c.poll.new.port.client c.loop.port.client 0 c.in_ok-poll.ensures.kept c.in_ok-poll.ensures.client c.loop.invariant.client in
     let polled = as_polled c.loop.port.client b d c.loop.writer c.poll.new.self c.in_ok-poll.field-0 polls.Fault c.loop.invariant.client c.in-Fault.is c.in_ok-poll.ensures.polled in
     (writes_fault c.args.writer.now c.loop.writer c.poll.new.self a b d c.requires.shard c.loop.invariant.so_far polled sole).0
 
@@ -60,7 +60,7 @@ returns-in-Fault-clause-failed g c =
     let a = g.S.Store.history c.args.port.now.store in
     let b = g.S.Store.history c.loop.port.store in
     let d = g.S.Store.history c.poll.new.port.store in
-    let sole = loan_kept b d c.poll.new.port.client c.loop.port.client 0 c.in_ok-poll.ensures.loan c.in_ok-poll.ensures.client c.loop.invariant.client in
+    let sole = others_kept b d c.poll.new.port.client c.loop.port.client 0 c.in_ok-poll.ensures.kept c.in_ok-poll.ensures.client c.loop.invariant.client in
     let polled = as_polled c.loop.port.client b d c.loop.writer c.poll.new.self c.in_ok-poll.field-0 polls.Fault c.loop.invariant.client c.in-Fault.is c.in_ok-poll.ensures.polled in
     let failed = (writes_fault c.args.writer.now c.loop.writer c.poll.new.self a b d c.requires.shard c.loop.invariant.so_far polled sole).1 in
     let rose : Rose (g.S.Store.faults c.loop.port.store) (g.S.Store.faults c.poll.new.port.store) = c.in_ok-poll.ensures.fault (ap Ok c.in-Fault.is) in
@@ -72,7 +72,7 @@ returns-in-Damaged-clause-told g c =
     let a = g.S.Store.history c.args.port.now.store in
     let b = g.S.Store.history c.loop.port.store in
     let d = g.S.Store.history c.poll.new.port.store in
-    let sole = loan_kept b d c.poll.new.port.client c.loop.port.client 0 c.in_ok-poll.ensures.loan c.in_ok-poll.ensures.client c.loop.invariant.client in
+    let sole = others_kept b d c.poll.new.port.client c.loop.port.client 0 c.in_ok-poll.ensures.kept c.in_ok-poll.ensures.client c.loop.invariant.client in
     let polled = as_polled c.loop.port.client b d c.loop.writer c.poll.new.self c.in_ok-poll.field-0 (polls.Damaged c.in-Damaged.field-0) c.loop.invariant.client c.in-Damaged.is c.in_ok-poll.ensures.polled in
     let legal = as_legal c.loop.port.client d c.loop.writer c.poll.new.self c.in_ok-poll.field-0 (polls.Damaged c.in-Damaged.field-0) c.loop.invariant.client c.in-Damaged.is c.in_ok-poll.ensures.legal in
     writes_damaged c.args.writer.now c.loop.writer c.poll.new.self c.in-Damaged.field-0 a b d c.requires.shard c.loop.invariant.so_far polled sole legal
@@ -82,7 +82,7 @@ returns-in-Spent-clause-told g c =
     let a = g.S.Store.history c.args.port.now.store in
     let b = g.S.Store.history c.loop.port.store in
     let d = g.S.Store.history c.poll.new.port.store in
-    let sole = loan_kept b d c.poll.new.port.client c.loop.port.client 0 c.in_ok-poll.ensures.loan c.in_ok-poll.ensures.client c.loop.invariant.client in
+    let sole = others_kept b d c.poll.new.port.client c.loop.port.client 0 c.in_ok-poll.ensures.kept c.in_ok-poll.ensures.client c.loop.invariant.client in
     let polled = as_polled c.loop.port.client b d c.loop.writer c.poll.new.self c.in_ok-poll.field-0 polls.Spent c.loop.invariant.client c.in-Spent.is c.in_ok-poll.ensures.polled in
     let legal = as_legal c.loop.port.client d c.loop.writer c.poll.new.self c.in_ok-poll.field-0 polls.Spent c.loop.invariant.client c.in-Spent.is c.in_ok-poll.ensures.legal in
     let few : c.loop.writer.trying.calls < 9223372036854775808 = omega (arith, c.loop.invariant.few, c.loop-test.true) in
@@ -93,7 +93,7 @@ returns-in-Done-clause-told g c =
     let a = g.S.Store.history c.args.port.now.store in
     let b = g.S.Store.history c.loop.port.store in
     let d = g.S.Store.history c.poll.new.port.store in
-    let sole = loan_kept b d c.poll.new.port.client c.loop.port.client 0 c.in_ok-poll.ensures.loan c.in_ok-poll.ensures.client c.loop.invariant.client in
+    let sole = others_kept b d c.poll.new.port.client c.loop.port.client 0 c.in_ok-poll.ensures.kept c.in_ok-poll.ensures.client c.loop.invariant.client in
     let polled = as_polled c.loop.port.client b d c.loop.writer c.poll.new.self c.in_ok-poll.field-0 (polls.Done c.in-Done.answer) c.loop.invariant.client c.in-Done.is c.in_ok-poll.ensures.polled in
     let legal = as_legal c.loop.port.client d c.loop.writer c.poll.new.self c.in_ok-poll.field-0 (polls.Done c.in-Done.answer) c.loop.invariant.client c.in-Done.is c.in_ok-poll.ensures.legal in
     let few : c.loop.writer.trying.calls < 9223372036854775808 = omega (arith, c.loop.invariant.few, c.loop-test.true) in
@@ -104,7 +104,7 @@ returns-in-Done-clause-by g c =
     let a = g.S.Store.history c.args.port.now.store in
     let b = g.S.Store.history c.loop.port.store in
     let d = g.S.Store.history c.poll.new.port.store in
-    let sole = loan_kept b d c.poll.new.port.client c.loop.port.client 0 c.in_ok-poll.ensures.loan c.in_ok-poll.ensures.client c.loop.invariant.client in
+    let sole = others_kept b d c.poll.new.port.client c.loop.port.client 0 c.in_ok-poll.ensures.kept c.in_ok-poll.ensures.client c.loop.invariant.client in
     let polled = as_polled c.loop.port.client b d c.loop.writer c.poll.new.self c.in_ok-poll.field-0 (polls.Done c.in-Done.answer) c.loop.invariant.client c.in-Done.is c.in_ok-poll.ensures.polled in
     let legal = as_legal c.loop.port.client d c.loop.writer c.poll.new.self c.in_ok-poll.field-0 (polls.Done c.in-Done.answer) c.loop.invariant.client c.in-Done.is c.in_ok-poll.ensures.legal in
     let few : c.loop.writer.trying.calls < 9223372036854775808 = omega (arith, c.loop.invariant.few, c.loop-test.true) in
@@ -115,7 +115,7 @@ returns-in-Done-clause-ended g c =
     let a = g.S.Store.history c.args.port.now.store in
     let b = g.S.Store.history c.loop.port.store in
     let d = g.S.Store.history c.poll.new.port.store in
-    let sole = loan_kept b d c.poll.new.port.client c.loop.port.client 0 c.in_ok-poll.ensures.loan c.in_ok-poll.ensures.client c.loop.invariant.client in
+    let sole = others_kept b d c.poll.new.port.client c.loop.port.client 0 c.in_ok-poll.ensures.kept c.in_ok-poll.ensures.client c.loop.invariant.client in
     let polled = as_polled c.loop.port.client b d c.loop.writer c.poll.new.self c.in_ok-poll.field-0 (polls.Done c.in-Done.answer) c.loop.invariant.client c.in-Done.is c.in_ok-poll.ensures.polled in
     let legal = as_legal c.loop.port.client d c.loop.writer c.poll.new.self c.in_ok-poll.field-0 (polls.Done c.in-Done.answer) c.loop.invariant.client c.in-Done.is c.in_ok-poll.ensures.legal in
     let few : c.loop.writer.trying.calls < 9223372036854775808 = omega (arith, c.loop.invariant.few, c.loop-test.true) in
@@ -126,7 +126,7 @@ loop-preserved g c =
     let a = g.S.Store.history c.args.port.now.store in
     let b = g.S.Store.history c.loop.port.store in
     let d = g.S.Store.history c.poll.new.port.store in
-    let sole = loan_kept b d c.poll.new.port.client c.loop.port.client 0 c.in_ok-poll.ensures.loan c.in_ok-poll.ensures.client c.loop.invariant.client in
+    let sole = others_kept b d c.poll.new.port.client c.loop.port.client 0 c.in_ok-poll.ensures.kept c.in_ok-poll.ensures.client c.loop.invariant.client in
     let few : c.loop.writer.trying.calls < 9223372036854775808 = omega (arith, c.loop.invariant.few, c.loop-test.true) in
     let low = c.loop.invariant.few in
     let follows = subst (λ (n : ℕ). FollowsWhere n d c.poll.new.self) c.loop.invariant.client c.in_ok-poll.ensures.follows in

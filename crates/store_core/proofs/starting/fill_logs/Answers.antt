@@ -9,17 +9,11 @@ use Rattle.store_core.proofs.starting.fill_logs.Goals as goal
 pub loop-shard-preserved : goal.loop-shard-preserved
 loop-shard-preserved c =
     let rest = map log_entry c.pop_front.new.self.items in
-    let first = get shard_cmp c.loop-shard.first in
-    let second = get shard_cmp c.loop-shard.second in
-    let shard = c.in-Some.shard in
+    let before = get shard_cmp c.loop-shard.into in
     record {
       start = (subst (λ xs. AllByRecursion CanStart xs) c.in-Some.ensures.items c.loop-shard.invariant.start).1;
-      first = ap (λ m. update_all same_shard m rest) c.in_ok-set_log.ensures
-          ∙ ap (λ l. update_all same_shard (set_at shard_cmp first shard (Some l)) rest) (c.in_ok-copy.ensures ∙ c.log_of-log.ensures)
-          ∙ ap (λ xs. update_all same_shard first (map log_entry xs)) (sym c.in-Some.ensures.items)
-          ∙ c.loop-shard.invariant.first;
-      second = ap (λ m. update_all same_shard m rest) c.in_ok-set_log-2.ensures
-          ∙ ap (λ l. update_all same_shard (set_at shard_cmp second shard (Some l)) rest) c.log_of-log.ensures
-          ∙ ap (λ xs. update_all same_shard second (map log_entry xs)) (sym c.in-Some.ensures.items)
-          ∙ c.loop-shard.invariant.second;
+      filled = ap (λ m. update_all same_shard m rest) c.in_ok-set_log.ensures
+          ∙ ap (λ l. update_all same_shard (set_at shard_cmp before c.in-Some.shard (Some l)) rest) c.log_of.ensures
+          ∙ ap (λ xs. update_all same_shard before (map log_entry xs)) (sym c.in-Some.ensures.items)
+          ∙ c.loop-shard.invariant.filled;
     }

@@ -7,7 +7,7 @@ use Rattle.store_core.proofs.mem_stores.MemStoreStore.call.Goals as goal
 pub invariant_of-self-in-Ok : goal.invariant_of-self-in-Ok
 invariant_of-self-in-Ok c =
     let s = c.args.self.now in
-    let start = stored_of s.start in
+    let start = stored_of s.start.value in
     let es = s.trail.items in
     let o = c.outcome_of-outcome.result in
     let e = entry_of c.args.client c.in_ok-copy.copy o in
