@@ -2,6 +2,7 @@
 #![tactic(auto)]
 
 mod appends;
+mod consolidating;
 mod counting;
 mod data;
 mod frontiers;

@@ -6,6 +6,7 @@ ghost use Rattle.update_core.specs.Totals.{total, IsConsolidation};
 ghost use Rattle.update_core.specs.Frontiers.{covers, is_from};
 ghost use Rattle.update_core.specs.Updates.{seen_datum, seen_time, weight_of, IsCons, IsSum, IsSlice, moved, cons, sum_of, moment_entry, datum_entry, row_entry, until, time_entry, between, slice_of};
 
+use crate::consolidating::consolidate_in_place;
 use crate::counting::count;
 use crate::data::Datum;
 use crate::frontiers::Frontier;
@@ -17,46 +18,18 @@ use crate::updates::Update;
 use std::alloc::{AllocError, Global};
 use std::collections::{BTreeMap, VecDeque};
 
-fn moment_entries(
-    alloc: Global,
-    updates: VecDeque<Update>,
-) -> Result<Vec<((Datum, u64), i64)>, AllocError>
-    ensures { IfOk result (λ out. out.items ≡ map moment_entry updates.items) }
-{
-    let mut rest = updates;
-    let mut out = Vec::new(alloc);
-    while let Some(update) = rest.pop_front() {
-        let Update { datum, time, diff } = update;
-        out.push(((datum, time), diff))?;
-    }
-    Ok(out)
-}
-
-fn updates_of(
-    alloc: Global,
-    entries: VecDeque<((Datum, u64), i64)>,
-) -> Result<UpdateList, AllocError>
-    ensures { IfOk result (λ out. map moment_entry out ≡ entries.items) }
-{
-    let mut rest = entries;
-    let mut out = UpdateList::new(alloc);
-    while let Some(((datum, time), diff)) = rest.pop_front() {
-        out.push(Update { datum, time, diff })?;
-    }
-    Ok(out)
-}
-
 /// For each pair of datum and time the sum of the differences, zeros left out, by datum and time.
-/// It takes n log n steps for n updates, and fails only for want of memory. `weight` tests what it requires.
-pub fn consolidate(alloc: Global, rows: UpdateList) -> Result<UpdateList, AllocError>
+/// It takes n log n steps for n updates, in their own memory but for the sort's, and fails only for want of memory.
+/// `weight` tests what it requires.
+pub fn consolidate(_alloc: Global, rows: UpdateList) -> Result<UpdateList, AllocError>
     requires { weight_of rows ≤ 2 ^ 62 }
     ensures sums { IfOk result (λ out. IsCons rows out) }
     ensures exact { IfOk result (λ out. out ≡ cons rows) }
     ensures weight { IfOk result (λ out. weight_of out ≤ weight_of rows) }
 {
-    let entries = moment_entries(alloc, VecDeque::from(rows.into_items()))?;
-    let merged = consolidate_by(alloc, entries)?;
-    updates_of(alloc, VecDeque::from(merged))
+    let mut items = rows.into_items();
+    consolidate_in_place(&mut items)?;
+    Ok(UpdateList::from_items(items))
 }
 
 // For each datum of an update up to a time the sum of its differences, also where that is 0.
