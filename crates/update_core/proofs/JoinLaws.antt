@@ -1,5 +1,6 @@
 -- What a join of updates in order leaves.
-use Rattle.std.proofs.Common.{◌≡◌, ℕ, pos, ◌+ℤ◌, ◌+◌, ◌≤◌, ◌^◌, Bool, true, false, cond, not, List, [], ◌∷◌, map, suc, ◌<◌, length, get_or, refl, sym, ap, subst, ◌∙◌, arith}
+use Rattle.std.proofs.Common.{◌≡◌, ℕ, pos, ◌+ℤ◌, ◌+◌, ◌≤◌, ◌^◌, Bool, true, false, cond, not, List, [], ◌∷◌, map, suc, ◌<◌, length}
+use Rattle.std.proofs.Common.{get_or, refl, sym, ap, subst, ◌∙◌, arith}
 use Rattle.std.proofs.lemmas.List.Sums.{sum_by-cons}
 use Rattle.std.specs.declared.cmp.Ordering.{Ordering}
 use Rattle.std.specs.declared.cmp.Ordering.TheVariants.{Less, Equal, Greater}
@@ -53,7 +54,8 @@ less_from Less h n = refl
 less_from Equal h n = cc
 less_from Greater h n = cc
 
-below_later : (k x : List ℕ × ℕ) (ys : List (List ℕ × ℕ)) → moment_cmp k x ≡ Less → AllByRecursion (λ y. is_gt (moment_cmp x y) ≡ false) ys → AllByRecursion (λ y. moment_cmp k y ≡ Less) ys
+below_later : (k x : List ℕ × ℕ) (ys : List (List ℕ × ℕ)) → moment_cmp k x ≡ Less → AllByRecursion (λ y. is_gt (moment_cmp x y)
+    ≡ false) ys → AllByRecursion (λ y. moment_cmp k y ≡ Less) ys
 below_later k x [] lt all = tt
 below_later k x (y ∷ ys) lt all = (through (moment_cmp x y) refl all.0, below_later k x ys lt all.1)
   where
@@ -64,7 +66,8 @@ below_later k x (y ∷ ys) lt all = (through (moment_cmp x y) refl all.0, below_
 
 module _ {S : Type 0} (R : S → Update → Update → Bool → S → Update → Update → Type 0)
     (calls : (s : S) (x k : Update) (b : Bool) (t : S) (x' k' : Update) → R s x k b t x' k' → Absorbs x k b x' k') where
-  joined_from : (xs : List Update) (s : S) (k : Update) (ys : List Update) → Ascending moment_cmp (keys_of (map moment_entry (k ∷ xs))) → weight_of (k ∷ xs) ≤ 2 ^ 62
+  joined_from : (xs : List Update) (s : S) (k : Update) (ys : List Update) → Ascending moment_cmp (keys_of (map moment_entry (k ∷ xs)))
+      → weight_of (k ∷ xs) ≤ 2 ^ 62
       → DedupsFrom R s k xs ys → Joined (k ∷ xs) ys
   unfolding IsStrictlySortedBy
   joined_from [] s k ys up room h = record {
@@ -84,18 +87,27 @@ module _ {S : Type 0} (R : S → Update → Update → Bool → S → Update →
       record {
         rising = j.rising;
         same = λ m. j.same m ∙ cond_sum (eq_by_cmp moment_cmp m (moment k)) k.diff x.diff (total moment_cmp (map moment_entry xs) m)
-            ∙ ap (λ q. cond (eq_by_cmp moment_cmp m (moment k)) k.diff (pos 0) +ℤ (cond (eq_by_cmp moment_cmp m q) x.diff (pos 0) +ℤ total moment_cmp (map moment_entry xs) m)) (sym one);
+            ∙ ap (λ q. cond (eq_by_cmp moment_cmp m (moment k)) k.diff (pos 0) +ℤ (cond (eq_by_cmp moment_cmp m q) x.diff
+            (pos 0) +ℤ total moment_cmp (map moment_entry xs) m)) (sym one);
         keys = λ P all. j.keys P (all.0, all.1.1);
       }
   joined_from (x ∷ xs) s k ys up room (false, t, x', k', r, left) =
       let c = calls s x k false t x' k' r in
-      let j = joined_from xs t x left.0 up.1 (omega (arith, room, weight-cons k (x ∷ xs))) (subst (λ u. DedupsFrom R t u xs left.0) c.stays left.1) in
+      let j = joined_from xs t x left.0 up.1 (omega (arith, room, weight-cons k (x ∷ xs))) (subst
+      (λ u. DedupsFrom R t u xs left.0) c.stays left.1) in
       let split : ys ≡ k ∷ left.0 = left.2 ∙ ap (λ u. u ∷ left.0) (c.apart refl) in
       let lt : moment_cmp (moment k) (moment x) ≡ Less = below (moment x) (moment k) up.0.0 (sym c.same) in
       record {
-        rising = subst (λ vs. IsStrictlySortedBy moment_cmp (keys_of (map moment_entry vs))) (sym split)
-            (j.keys (λ y. moment_cmp (moment k) y ≡ Less) (lt, below_later (moment k) (moment x) (keys_of (map moment_entry xs)) lt up.1.0), j.rising);
-        same = λ m. ap (λ vs. total moment_cmp (map moment_entry vs) m) split ∙ ap (λ z. cond (eq_by_cmp moment_cmp m (moment k)) k.diff (pos 0) +ℤ z) (j.same m);
+        rising = subst (λ vs. IsStrictlySortedBy moment_cmp (keys_of (map moment_entry vs))) (sym split) (
+          j.keys (λ y. moment_cmp (moment k) y ≡ Less) (
+            lt,
+            below_later (moment k) (moment x) (keys_of
+                (map moment_entry xs)) lt up.1.0,
+          ),
+          j.rising,
+        );
+        same = λ m. ap (λ vs. total moment_cmp (map moment_entry vs) m) split ∙ ap (λ z. cond (eq_by_cmp moment_cmp m (moment k)) k.diff
+            (pos 0) +ℤ z) (j.same m);
         keys = λ P all. subst (λ vs. AllByRecursion P (keys_of (map moment_entry vs))) (sym split) (all.0, j.keys P all.1);
       }
     where
@@ -109,7 +121,8 @@ module _ {S : Type 0} (R : S → Update → Update → Bool → S → Update →
       below : (x k : List ℕ × ℕ) → is_gt (moment_cmp k x) ≡ false → is_eq (moment_cmp x k) ≡ false → moment_cmp k x ≡ Less
       below x k h n = turned (moment_cmp k x) (moment_cmp x k) (moments_total.antisymm k x) h n
 
-  pub joined_all : (us : List Update) (s : S) (vs : List Update) → Ascending moment_cmp (keys_of (map moment_entry us)) → weight_of us ≤ 2 ^ 62 → DedupsAll R s us vs → Joined us vs
+  pub joined_all : (us : List Update) (s : S) (vs : List Update) → Ascending moment_cmp (keys_of (map moment_entry us)) → weight_of us
+      ≤ 2 ^ 62 → DedupsAll R s us vs → Joined us vs
   unfolding IsStrictlySortedBy
   joined_all [] s vs up room h = record {
     rising = subst (λ vs. IsStrictlySortedBy moment_cmp (keys_of (map moment_entry vs))) (sym h) tt;
@@ -121,43 +134,62 @@ module _ {S : Type 0} (R : S → Update → Update → Bool → S → Update →
 -- the updates that count something
 entries_kept : (us : List Update) → map moment_entry (filter (λ u. not (int_eq u.diff (pos 0))) us) ≡ filter is_kept (map moment_entry us)
 entries_kept [] = refl
-entries_kept (u ∷ us) = elim (int_eq u.diff (pos 0)) as (λ b. map moment_entry (cond (not b) (u ∷ filter (λ u. not (int_eq u.diff (pos 0))) us) (filter (λ u. not (int_eq u.diff (pos 0))) us))
+entries_kept (u ∷ us) = elim (int_eq u.diff (pos 0)) as (λ b. map moment_entry (cond (not b) (u ∷ filter (λ u. not (int_eq u.diff
+    (pos 0))) us) (filter (λ u. not (int_eq u.diff (pos 0))) us))
     ≡ cond (not b) (moment_entry u ∷ filter is_kept (map moment_entry us)) (filter is_kept (map moment_entry us))) [
       | true ↦ entries_kept us
       | false ↦ (λ i. moment_entry u ∷ entries_kept us i)
     ]
 
-pub zeros_dropped : (us vs : List Update) → IsStrictlySortedBy moment_cmp (keys_of (map moment_entry us)) → vs ≡ filter (λ u. not (int_eq u.diff (pos 0))) us
+pub zeros_dropped : (us vs : List Update) → IsStrictlySortedBy moment_cmp (keys_of (map moment_entry us)) → vs
+    ≡ filter (λ u. not (int_eq u.diff (pos 0))) us
     → IsConsolidation moment_cmp (map moment_entry us) (map moment_entry vs)
-zeros_dropped us vs up is = subst (λ es. IsConsolidation moment_cmp (map moment_entry us) es) (sym (ap (map moment_entry) is ∙ entries_kept us)) (consolidation_kept moment_cmp (map moment_entry us) up)
+zeros_dropped us vs up is = subst (λ es. IsConsolidation moment_cmp (map moment_entry us) es) (sym (ap (map moment_entry) is
+    ∙ entries_kept us)) (consolidation_kept moment_cmp (map moment_entry us) up)
 
 -- updates in order by their places
-ascending_by_index : (us : List Update) → ((i j : ℕ) (u : Update) → i < j → j < length us → is_gt (moment_cmp (moment (get_or us i u)) (moment (get_or us j u))) ≡ false) → Ascending moment_cmp (keys_of (map moment_entry us))
+ascending_by_index : (us : List Update) → ((i j : ℕ) (u : Update) → i < j → j < length us → is_gt (moment_cmp (moment (get_or us i u))
+    (moment (get_or us j u))) ≡ false) → Ascending moment_cmp (keys_of (map moment_entry us))
 ascending_by_index [] h = tt
-ascending_by_index (e ∷ es) h = (heads e es (λ j x lt. h 0 (suc j) x (omega arith) (omega arith)), ascending_by_index es (λ i j x lt below. h (suc i) (suc j) x (omega arith) (omega arith)))
+ascending_by_index (e ∷ es) h = (
+  heads e es (λ j x lt. h 0 (suc j) x (omega arith) (omega arith)),
+  ascending_by_index es
+      (λ i j x lt below. h (suc i) (suc j) x (omega arith) (omega arith)),
+)
   where
-    heads : (e : Update) (es : List Update) → ((j : ℕ) (x : Update) → j < length es → is_gt (moment_cmp (moment e) (moment (get_or es j x))) ≡ false) → AllByRecursion (λ y. is_gt (moment_cmp (moment e) y) ≡ false) (keys_of (map moment_entry es))
+    heads : (e : Update) (es : List Update) → ((j : ℕ) (x : Update) → j < length es → is_gt (moment_cmp (moment e) (moment
+        (get_or es j x))) ≡ false) → AllByRecursion (λ y. is_gt (moment_cmp (moment e) y) ≡ false) (keys_of (map moment_entry es))
     heads e [] h = tt
     heads e (f ∷ fs) h = (h 0 f (omega arith), heads e fs (λ j x lt. h (suc j) x (omega arith)))
 
-ascending_from_sorted : (us : List Update) → IsSortedBy (λ (x y : Update). is_lt (moment_cmp (moment x) (moment y))) us → Ascending moment_cmp (keys_of (map moment_entry us))
+ascending_from_sorted : (us : List Update) → IsSortedBy (λ (x y : Update). is_lt (moment_cmp (moment x) (moment y))) us
+    → Ascending moment_cmp (keys_of (map moment_entry us))
 ascending_from_sorted us up = ascending_by_index us (λ i j x lt below.
     turned_back moments_total (moment (get_or us j x)) (moment (get_or us i x))
-    (sorted_far (λ (x y : Update). is_lt (moment_cmp (moment x) (moment y))) (ranks_by moments_total moment) us up i j x (omega arith) below))
+    (sorted_far (λ (x y : Update). is_lt (moment_cmp (moment x) (moment y))) (ranks_by moments_total moment) us up i j x
+    (omega arith) below))
 
 -- from the clause `sorted` of `sort_by`, where each call compares the data and times
 pub ascending_from_sort : {F : Type 0} {g : Mut F (Bor Update × (Bor Update × Unit {0})) Ordering} {f : F} (us : List Update)
     → ((lt : Update → Update → Bool) → IsStrictWeakOrder lt → ComparesAs g lt f → IsSortedBy lt us)
-    → ((a : Bor Update × (Bor Update × Unit {0})) (r : Ordering) (f' : F) → Called g f a r f' → (r ≡ moment_cmp (moment a.0.now) (moment a.1.0.now)) × (f' ≡ f)) → Ascending moment_cmp (keys_of (map moment_entry us))
-ascending_from_sort {g = g} {f = f} us up h = ascending_from_sorted us (up (λ x y. is_lt (moment_cmp (moment x) (moment y))) (ranks_by moments_total moment)
-    (always_returns_same g (λ a r. is_lt r ≡ is_lt (moment_cmp (moment a.0.now) (moment a.1.0.now))) f (λ a r f' k. (ap is_lt (h a r f' k).0, (h a r f' k).1))))
+    → ((a : Bor Update × (Bor Update × Unit {0})) (r : Ordering) (f' : F) → Called g f a r f' → (r
+    ≡ moment_cmp (moment a.0.now) (moment a.1.0.now)) × (f' ≡ f)) → Ascending moment_cmp (keys_of (map moment_entry us))
+ascending_from_sort {g = g} {f = f} us up h = ascending_from_sorted us (up (λ x y. is_lt (moment_cmp (moment x) (moment y)))
+    (ranks_by moments_total moment)
+    (always_returns_same g (λ a r. is_lt r ≡ is_lt (moment_cmp (moment a.0.now) (moment a.1.0.now))) f (λ a r f' k. (
+      ap is_lt
+          (h a r f' k).0,
+      (h a r f' k).1,
+    ))))
 
 -- the consolidation of a list that was put in order and joined
 pub consolidation_of_joined : (us sorted joined out : List Update) → IsPermutation us sorted
     → ((m : List ℕ × ℕ) → total moment_cmp (map moment_entry joined) m ≡ total moment_cmp (map moment_entry sorted) m)
-    → IsConsolidation moment_cmp (map moment_entry joined) (map moment_entry out) → IsConsolidation moment_cmp (map moment_entry us) (map moment_entry out)
+    → IsConsolidation moment_cmp (map moment_entry joined) (map moment_entry out) → IsConsolidation moment_cmp (map moment_entry us)
+    (map moment_entry out)
 consolidation_of_joined us sorted joined out moved same c = record {
   rising = c.rising;
   nonzero = c.nonzero;
-  same = λ m. c.same m ∙ same m ∙ total-IsPermutation moment_cmp (map moment_entry us) (map moment_entry sorted) (IsPermutation-map moment_entry us sorted moved) m;
+  same = λ m. c.same m ∙ same m ∙ total-IsPermutation moment_cmp (map moment_entry us) (map moment_entry sorted)
+      (IsPermutation-map moment_entry us sorted moved) m;
 }

@@ -22,7 +22,8 @@ fn cmp_moments(a: &Update, b: &Update) -> Ordering
 // Whether a later update has the datum and time of one that is kept, which then takes its difference.
 fn absorbs(kept: &mut Update, later: &Update) -> bool
     ensures same { result ≡ eq_by_cmp moment_cmp (later.now.datum, later.now.time) (kept.old.datum, kept.old.time) }
-    ensures sum { result ≡ true → unsigned_abs kept.old.diff + unsigned_abs later.now.diff ≤ 2 ^ 62 → kept.new ≡ record kept.old { diff = kept.old.diff +ℤ later.now.diff } }
+    ensures sum { result ≡ true → unsigned_abs kept.old.diff + unsigned_abs later.now.diff ≤ 2 ^ 62
+        → kept.new ≡ record kept.old { diff = kept.old.diff +ℤ later.now.diff } }
     ensures apart { result ≡ false → kept.new ≡ kept.old }
 {
     if cmp_moments(later, kept) != Ordering::Equal {
@@ -46,7 +47,8 @@ fn join(rows: &mut Vec<Update>)
     requires ascending { Ascending moment_cmp (keys_of (map moment_entry rows.old.items)) }
     requires room { weight_of rows.old.items ≤ 2 ^ 62 }
     ensures rising { IsStrictlySortedBy moment_cmp (keys_of (map moment_entry rows.new.items)) }
-    ensures same { (m : List ℕ × ℕ) → total moment_cmp (map moment_entry rows.new.items) m ≡ total moment_cmp (map moment_entry rows.old.items) m }
+    ensures same { (m : List ℕ × ℕ) → total moment_cmp (map moment_entry rows.new.items) m
+        ≡ total moment_cmp (map moment_entry rows.old.items) m }
 {
     rows.dedup_by(|later, kept| absorbs(kept, later));
 }

@@ -55,7 +55,8 @@ impl Datum {
     /// `Memory` where memory is refused.
     pub fn of(alloc: Global, bytes: &[u8]) -> Result<Datum, DatumFault>
         ensures ok { IfOk result (λ d. (d ≡ bytes.now) × (1 ≤ length bytes.now) × (length bytes.now ≤ 255)) }
-        ensures size { IfErr result (λ e. ((e ≡ DatumFault.Memory) × (1 ≤ length bytes.now) × (length bytes.now ≤ 255)) ⊎ ((e ≡ DatumFault.DatumSize (length bytes.now)) × ((length bytes.now ≡ 0) ⊎ (255 < length bytes.now)))) }
+        ensures size { IfErr result (λ e. ((e ≡ DatumFault.Memory) × (1 ≤ length bytes.now) × (length bytes.now ≤ 255))
+            ⊎ ((e ≡ DatumFault.DatumSize (length bytes.now)) × ((length bytes.now ≡ 0) ⊎ (255 < length bytes.now)))) }
     {
         let len = bytes.len();
         if len == 0 || len > 255 {

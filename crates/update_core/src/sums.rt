@@ -4,7 +4,7 @@ ghost use Rattle.std.specs.Cmp.Lexicographic.{slice_cmp};
 ghost use Rattle.std.specs.Ordering.{nat_cmp};
 ghost use Rattle.update_core.specs.Totals.{total, IsConsolidation};
 ghost use Rattle.update_core.specs.Frontiers.{covers, is_from};
-ghost use Rattle.update_core.specs.Updates.{seen_datum, seen_time, weight_of, IsCons, IsSum, IsSlice, moved, cons, sum_of, moment_entry, datum_entry, row_entry, until, time_entry, between, slice_of};
+ghost use Rattle.update_core.specs.Updates.{seen_datum, seen_time, weight_of, IsCons, IsSum, IsSlice, moved, cons, sum_of, datum_entry, row_entry, until, time_entry, between, slice_of};
 
 use crate::consolidating::consolidate_in_place;
 use crate::counting::count;
@@ -39,7 +39,8 @@ fn sums_until<'a>(
     t: u64,
 ) -> Result<BTreeMap<&'a Datum, i64>, AllocError>
     requires { weight_of rows.now ≤ 2 ^ 62 }
-    ensures { IfOk result (λ sums. (k : List ℕ) → total (slice_cmp nat_cmp) (map seen_datum sums.entries) k ≡ total (slice_cmp nat_cmp) (map datum_entry (until t rows.now)) k) }
+    ensures { IfOk result (λ sums. (k : List ℕ) → total (slice_cmp nat_cmp) (map seen_datum sums.entries) k
+        ≡ total (slice_cmp nat_cmp) (map datum_entry (until t rows.now)) k) }
 {
     let mut sums = BTreeMap::new(alloc);
     for update in rows {

@@ -19,7 +19,8 @@ overflow_add-sum g c =
     let fd : FitsSigned w64 d = c.ranges.diff in
     let fv : FitsSigned w64 v = fits_signed_from_abs w64 v (omega (arith, abs-lookup R k es, c.requires.room)) in
     let fs : FitsSigned w64 (v +ℤ d) = fits_signed_from_abs w64 (v +ℤ d) (omega (arith, abs-lookup R k es, abs_sum v d, c.requires.room)) in
-    subst (λ z. FitsSigned w64 z) (sym ((λ i. to_z w64 (of_z w64 (found i)) +ℤ to_z-of_z w64 d fd i) ∙ ap (λ z. z +ℤ d) (to_z-of_z w64 v fv))) fs
+    subst (λ z. FitsSigned w64 z) (sym ((λ i. to_z w64 (of_z w64 (found i)) +ℤ to_z-of_z w64 d fd i)
+    ∙ ap (λ z. z +ℤ d) (to_z-of_z w64 v fv))) fs
 
 pub returns : goal.returns
 returns g c =
@@ -33,6 +34,7 @@ returns g c =
     let fv : FitsSigned w64 v = fits_signed_from_abs w64 v (omega (arith, abs-lookup R k es, c.requires.room)) in
     let fs : FitsSigned w64 (v +ℤ d) = fits_signed_from_abs w64 (v +ℤ d) (omega (arith, abs-lookup R k es, abs_sum v d, c.requires.room)) in
     let sum : to_z w64 (of_z w64 (to_z w64 (of_z w64 c.or_insert-sum.result.now) +ℤ to_z w64 (of_z w64 d))) ≡ v +ℤ d =
-    (λ i. to_z w64 (of_z w64 (to_z w64 (of_z w64 (found i)) +ℤ to_z-of_z w64 d fd i))) ∙ ap (λ z. to_z w64 (of_z w64 (z +ℤ d))) (to_z-of_z w64 v fv) ∙ to_z-of_z w64 (v +ℤ d) fs in
+    (λ i. to_z w64 (of_z w64 (to_z w64 (of_z w64 (found i)) +ℤ to_z-of_z w64 d fd i))) ∙ ap (λ z. to_z w64 (of_z w64 (z +ℤ d)))
+    (to_z-of_z w64 v fv) ∙ to_z-of_z w64 (v +ℤ d) fs in
     let is = inserted_is_counted g.met.K.Ord.total k d es c.entry.ensures.ordered in
     search (rules, found, sum, is, c.in_ok-sums.ensures.update.1)

@@ -14,6 +14,8 @@ loop-datum-preserved c =
 pub returns : goal.returns
 returns c =
     let given = c.into_iter-datum-iterator.ensures.into_iter_gives in
-    let all = sym (map-id c.loop-datum.yielded) ∙ (iter_end (λ x. x) c.args.sums.entries c.loop-datum.yielded c.into_iter-datum-iterator.result c.loop-datum.datum-iterator c.next.new.self c.next.result
+    let all = sym (map-id c.loop-datum.yielded) ∙ (iter_end
+    (λ x. x) c.args.sums.entries c.loop-datum.yielded c.into_iter-datum-iterator.result c.loop-datum.datum-iterator c.next.new.self c.next.result
     given.0 c.loop-datum.yielded_by c.in-None.is c.next.ensures.steps).0 in
-    consolidation_of_sums c.args.sums.entries (map row_entry c.loop-datum.out) given.5 (c.loop-datum.invariant ∙ ap (λ es. filter is_kept (map seen_datum es)) all)
+    consolidation_of_sums c.args.sums.entries (map row_entry c.loop-datum.out) given.5 (c.loop-datum.invariant
+    ∙ ap (λ es. filter is_kept (map seen_datum es)) all)

@@ -10,7 +10,8 @@ loop-update-preserved c =
     let ms = c.loop-update.sums.entries in
     let u = c.update-item.result in
     elim c.if-update-t.branch [
-      | then-update-t+in_ok-count w ↦ subst (Counting c.args.t (take (i + 1) us)) (sym (ap (λ m. m.entries) w.sums-is ∙ w.in_ok-count.ensures))
+      | then-update-t+in_ok-count w ↦ subst (Counting c.args.t (take (i + 1) us)) (sym (ap (λ m. m.entries) w.sums-is
+          ∙ w.in_ok-count.ensures))
           (counting_counts c.args.t us i ms u u _ c.loop-update-test.true c.update-item.is refl c.requires w.if-update-t.true c.loop-update.invariant)
       | else-update-t w ↦ subst (λ m. Counting c.args.t (take (i + 1) us) m.entries) (sym w.sums-is)
           (counting_passes c.args.t us i ms u u c.loop-update-test.true c.update-item.is w.if-update-t.false c.loop-update.invariant)
