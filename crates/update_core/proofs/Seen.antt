@@ -37,7 +37,7 @@ module _ {J K : Type 0} (R : K → K → Ordering) (f : J → K) where
   less_than_all x [] all = tt
   less_than_all x (e ∷ es) all = (all.0, less_than_all x es all.1)
 
-  rising-seen : (es : List (J × ℤ)) → IsStrictlySortedBy through (keys_of es) → IsStrictlySortedBy R (keys_of (map (seen f) es))
+  pub rising-seen : (es : List (J × ℤ)) → IsStrictlySortedBy through (keys_of es) → IsStrictlySortedBy R (keys_of (map (seen f) es))
   unfolding IsStrictlySortedBy
   rising-seen [] up = tt
   rising-seen (e ∷ es) up = (less_than_all e.0 es up.0, rising-seen es up.1)

@@ -51,10 +51,12 @@ impl From<AllocError> for DatumFault {
 }
 
 impl Datum {
-    /// The datum of these bytes, exactly where there are 1 to 255; else `DatumSize`, or `Memory` where memory is refused.
+    /// The datum of these bytes. `DatumSize` exactly where there are 0 or more than 255, whatever memory there is; for 1 to 255
+    /// `Memory` where memory is refused.
     pub fn of(alloc: Global, bytes: &[u8]) -> Result<Datum, DatumFault>
         ensures ok { IfOk result (λ d. (d ≡ bytes.now) × (1 ≤ length bytes.now) × (length bytes.now ≤ 255)) }
-        ensures size { IfErr result (λ e. (e ≡ DatumFault.Memory) ⊎ ((e ≡ DatumFault.DatumSize (length bytes.now)) × ((length bytes.now ≡ 0) ⊎ (255 < length bytes.now)))) }
+        ensures size { IfErr result (λ e. ((e ≡ DatumFault.Memory) × (1 ≤ length bytes.now) × (length bytes.now ≤ 255))
+            ⊎ ((e ≡ DatumFault.DatumSize (length bytes.now)) × ((length bytes.now ≡ 0) ⊎ (255 < length bytes.now)))) }
     {
         let len = bytes.len();
         if len == 0 || len > 255 {

@@ -2,6 +2,8 @@
 #![tactic(auto)]
 
 mod appends;
+mod consolidating;
+mod counting;
 mod data;
 mod frontiers;
 pub mod laws;
@@ -21,5 +23,7 @@ pub use sums::{advance, consolidate, slice_between, sum_at, weight};
 pub use update_lists::UpdateList;
 pub use updates::Update;
 
+#[cfg(test)]
+mod slow_sums;
 #[cfg(test)]
 mod tests;

@@ -1,8 +1,13 @@
 // Consolidation, sums and slices of updates.
-ghost use Rattle.std.specs.Prelude.{◌≡◌, ◌≤◌, ◌^◌, IfOk, map, ◌&&◌};
+ghost use Rattle.std.specs.Prelude.{◌≡◌, ◌≤◌, ◌^◌, ℕ, List, IfOk, map, ◌&&◌};
+ghost use Rattle.std.specs.Cmp.Lexicographic.{slice_cmp};
+ghost use Rattle.std.specs.Ordering.{nat_cmp};
+ghost use Rattle.update_core.specs.Totals.{total, IsConsolidation};
 ghost use Rattle.update_core.specs.Frontiers.{covers, is_from};
-ghost use Rattle.update_core.specs.Updates.{seen_datum, seen_time, weight_of, IsCons, IsSum, IsSlice, moved, cons, sum_of, moment_entry, datum_entry, row_entry, until, time_entry, between, slice_of};
+ghost use Rattle.update_core.specs.Updates.{seen_datum, seen_time, weight_of, IsCons, IsSum, IsSlice, moved, cons, sum_of, datum_entry, row_entry, until, time_entry, between, slice_of};
 
+use crate::consolidating::consolidate_in_place;
+use crate::counting::count;
 use crate::data::Datum;
 use crate::frontiers::Frontier;
 use crate::merging::consolidate_by;
@@ -11,88 +16,64 @@ use crate::rows::Row;
 use crate::update_lists::UpdateList;
 use crate::updates::Update;
 use std::alloc::{AllocError, Global};
-use std::collections::VecDeque;
-
-fn moment_entries(
-    alloc: Global,
-    updates: VecDeque<Update>,
-) -> Result<Vec<((Datum, u64), i64)>, AllocError>
-    ensures { IfOk result (λ out. out.items ≡ map moment_entry updates.items) }
-{
-    let mut rest = updates;
-    let mut out = Vec::new(alloc);
-    while let Some(update) = rest.pop_front() {
-        let Update { datum, time, diff } = update;
-        out.push(((datum, time), diff))?;
-    }
-    Ok(out)
-}
-
-fn updates_of(
-    alloc: Global,
-    entries: VecDeque<((Datum, u64), i64)>,
-) -> Result<UpdateList, AllocError>
-    ensures { IfOk result (λ out. map moment_entry out ≡ entries.items) }
-{
-    let mut rest = entries;
-    let mut out = UpdateList::new(alloc);
-    while let Some(((datum, time), diff)) = rest.pop_front() {
-        out.push(Update { datum, time, diff })?;
-    }
-    Ok(out)
-}
+use std::collections::{BTreeMap, VecDeque};
 
 /// For each pair of datum and time the sum of the differences, zeros left out, by datum and time.
-/// It takes n log n steps for n updates, and fails only for want of memory. `weight` tests what it requires.
-pub fn consolidate(alloc: Global, rows: UpdateList) -> Result<UpdateList, AllocError>
+/// It takes n log n steps for n updates, in their own memory but for the sort's, and fails only for want of memory.
+/// `weight` tests what it requires.
+pub fn consolidate(_alloc: Global, rows: UpdateList) -> Result<UpdateList, AllocError>
     requires { weight_of rows ≤ 2 ^ 62 }
     ensures sums { IfOk result (λ out. IsCons rows out) }
     ensures exact { IfOk result (λ out. out ≡ cons rows) }
     ensures weight { IfOk result (λ out. weight_of out ≤ weight_of rows) }
 {
-    let entries = moment_entries(alloc, VecDeque::from(rows.into_items()))?;
-    let merged = consolidate_by(alloc, entries)?;
-    updates_of(alloc, VecDeque::from(merged))
+    let mut items = rows.into_items();
+    consolidate_in_place(&mut items)?;
+    Ok(UpdateList::from_items(items))
 }
 
-fn rows_of(alloc: Global, entries: VecDeque<(&Datum, i64)>) -> Result<RowList, AllocError>
-    ensures { IfOk result (λ out. map row_entry out ≡ map seen_datum entries.entry.items) }
-{
-    let mut rest = entries;
-    let mut out = RowList::new(alloc);
-    while let Some((datum, diff)) = rest.pop_front() {
-        let datum = datum.copy(alloc)?;
-        out.push(Row { datum, diff })?;
-    }
-    Ok(out)
-}
-
-fn entries_until<'a>(
+// For each datum of an update up to a time the sum of its differences, also where that is 0.
+fn sums_until<'a>(
     alloc: Global,
     rows: &'a [Update],
     t: u64,
-) -> Result<Vec<(&'a Datum, i64)>, AllocError>
-    ensures { IfOk result (λ out. map seen_datum out.items ≡ map datum_entry (until t rows.now)) }
+) -> Result<BTreeMap<&'a Datum, i64>, AllocError>
+    requires { weight_of rows.now ≤ 2 ^ 62 }
+    ensures { IfOk result (λ sums. (k : List ℕ) → total (slice_cmp nat_cmp) (map seen_datum sums.entries) k
+        ≡ total (slice_cmp nat_cmp) (map datum_entry (until t rows.now)) k) }
 {
-    let mut out = Vec::new(alloc);
+    let mut sums = BTreeMap::new(alloc);
     for update in rows {
         if update.time <= t {
-            out.push((&update.datum, update.diff))?;
+            count(&mut sums, &update.datum, update.diff)?;
+        }
+    }
+    Ok(sums)
+}
+
+// The rows of the sums that aren't 0.
+fn rows_of(alloc: Global, sums: BTreeMap<&Datum, i64>) -> Result<RowList, AllocError>
+    ensures { IfOk result (λ out. IsConsolidation (slice_cmp nat_cmp) (map seen_datum sums.entry.entries) (map row_entry out)) }
+{
+    let mut out = RowList::new(alloc);
+    for (datum, diff) in sums {
+        if diff != 0 {
+            let datum = datum.copy(alloc)?;
+            out.push(Row { datum, diff })?;
         }
     }
     Ok(out)
 }
 
 /// For each datum the sum of the differences up to a time, zeros left out, by datum.
-/// It takes n log n steps for n updates, and fails only for want of memory. `weight` tests what it requires.
+/// It takes n log m steps for n updates of m data, and fails only for want of memory. `weight` tests what it requires.
 pub fn sum_at(alloc: Global, rows: &UpdateList, t: u64) -> Result<RowList, AllocError>
     requires { weight_of rows.now ≤ 2 ^ 62 }
     ensures sums { IfOk result (λ out. IsSum rows.now t out) }
     ensures exact { IfOk result (λ out. out ≡ sum_of rows.now t) }
 {
-    let entries = entries_until(alloc, rows.as_slice(), t)?;
-    let merged = consolidate_by(alloc, entries)?;
-    rows_of(alloc, VecDeque::from(merged))
+    let sums = sums_until(alloc, rows.as_slice(), t)?;
+    rows_of(alloc, sums)
 }
 
 fn is_within(from: Frontier, to: Frontier, t: u64) -> bool
