@@ -1,0 +1,9 @@
+pub mod Walks
+pub mod Soundness
+pub mod Completeness
+pub mod Levels
+pub mod Tops
+pub mod Finding
+pub mod Meaning
+pub mod Readers
+pub mod OneMeaning

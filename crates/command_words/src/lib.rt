@@ -1,0 +1,16 @@
+//! Which words of a command line are which command.
+#![tactic(auto)]
+
+mod commands;
+mod faults;
+mod found;
+pub mod laws;
+mod programs;
+mod reading;
+#[cfg(test)]
+mod tests;
+mod values;
+
+pub use commands::CommandWords;
+pub use faults::WordsFault;
+pub use reading::parse_words;
