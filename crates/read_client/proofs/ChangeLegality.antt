@@ -51,6 +51,7 @@ use Rattle.read_client.specs.Following.{Follows}
 use Rattle.read_client.specs.Reading.{AsksAs, IsSound, MovesAfterTry, call_by, call_of, committed_answer, expired, is_gone, last_member, newest_number, number_of, own_member, question, refused_poll, shard_of, since_of, strange, verdict}
 use Rattle.read_client.proofs.LegalPolls.{LegalOf, LegalPoll, after_calls, among_now, found_kind, gone_expired, legal_poll, own_kind, is_there, scan_now, some_is}
 use Rattle.read_client.proofs.Places.{found_stands, none_stands}
+use Rattle.read_client.proofs.Sound.{by_number}
 
 -- ---- why a change is refused
 
@@ -186,7 +187,10 @@ module _ (client : ℕ) (r : Reader) (list : List Update) (start : Stored) (e : 
           )
 
       refuses : (refusal : Refusal) → Goes (tries.Refused refusal) → Legal (asks.OpenReader shard start_at lease) (refused_poll now (asks.OpenReader shard start_at lease) refusal)
-      refuses refusal m = λ less.
+      refuses refusal m = by_number (Legal (asks.OpenReader shard start_at lease)) (newest_number now) (λ last less.
+          let at = refused refusal m in
+          scan_now client r list start e others es t.calls counted less own of (AtLast start (shard_of r) (λ n s. n ≡ most)) at.scan
+          (at.state.number, at.state, at.last, number_now (λ s. standing_refusal s r.trying.step ≡ Some refusal) at ∙ last)) (λ less.
           let at = refused refusal m in
           let rules = state_rules (shard_of r) ((replay_back start (others ++ es)).logs (shard_of r)) at.state.number at.state at.last.1 in
           let full = join_full at.state start_at lease refusal rules (subst (λ (x : Transition). standing_refusal at.state x ≡ Some refusal) is at.so) in (
@@ -194,7 +198,7 @@ module _ (client : ℕ) (r : Reader) (list : List Update) (start : Stored) (e : 
                 (scan_now client r list start e others es t.calls counted less own of (AtLast start (shard_of r) (λ n s. (n ≡ newest_number now) × (length s.members ≡ 256))) at.scan
                 (at.state.number, at.state, at.last, (number_now (λ s. standing_refusal s r.trying.step ≡ Some refusal) at, full))),
             tt,
-          )
+          ))
 
   -- ---- a change of the member
 

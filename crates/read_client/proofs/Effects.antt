@@ -47,7 +47,8 @@ use Rattle.read_client.specs.declared.stages.Stage.{Stage}
 use Rattle.read_client.specs.declared.stages.Stage.TheVariants as stages
 use Rattle.read_client.specs.Asking.{asks_of, content_look, look_of, member_look, step_look}
 use Rattle.read_client.specs.Polling.{Effect}
-use Rattle.read_client.specs.Reading.{ChecksAt, IsAsked, IsSound, LooksAt, Moves, MovesAfterCheck, MovesAfterScan, MovesBy, MovesByFetched, MovesByStage, after_poll, call_by, call_of, change_refused, committed_answer, counted, expired, holding, is_gone, last_member, look_poll, missing_poll, own_member, parts_poll, question, refused_poll, rows_answer, shard_of, since_of, staged, strange, verdict}
+use Rattle.read_client.specs.Reading.{ChecksAt, IsAsked, IsSound, LooksAt, Moves, MovesAfterCheck, MovesAfterScan, MovesBy, MovesByFetched, MovesByStage, after_poll, call_by, call_of, change_refused, committed_answer, counted, expired, holding, is_gone, last_member, look_poll, missing_poll, own_member, parts_poll, question, refused_poll, rows_answer, shard_of, since_of, staged, strange, verdict, newest_number}
+use Rattle.read_client.proofs.Sound.{by_number}
 
 -- ---- one more call is counted
 
@@ -167,7 +168,7 @@ module _ (shard : ShardId) (tried_step : Transition) (call : Call) (reply : Repl
   change_effect r refusals.Memory n = gone_effect r (is_gone (own_member r) r.trying.loader.cached) n
 
   refused_effect : (r : Reader) (asked : Asked) (refusal : Refusal) → CommitsNone reply → Commits (refused_poll r asked refusal)
-  refused_effect r (asks.OpenReader at_shard now lease) refusal n = n
+  refused_effect r (asks.OpenReader at_shard now lease) refusal n = by_number Commits (newest_number r) (λ last. tt) n
   refused_effect r (asks.Advance to) refusal n = change_effect r refusal n
   refused_effect r (asks.RenewReader now) refusal n = change_effect r refusal n
   refused_effect r (asks.OpenWriter at_shard) refusal n = inr n

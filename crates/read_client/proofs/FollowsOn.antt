@@ -69,11 +69,11 @@ use Rattle.read_client.specs.declared.stages.Stage.{Stage}
 use Rattle.read_client.specs.declared.stages.Stage.TheVariants as stages
 use Rattle.read_client.specs.Asking.{look_of}
 use Rattle.read_client.specs.Following.{Follows, FollowsStage, IsRead, SinceGot, SinceMissing, SinceScan, own_count}
-use Rattle.read_client.specs.Reading.{IsAsked, IsGetting, change_refused, is_gone, since_of, IsOpen, IsReading, IsSound, Moves, MovesAfterTry, MovesBy, MovesByFetched, Wants, WantsBy, after_poll, call_of, committed_answer, counted, expired, holding, last_member, look_poll, missing_poll, own_member, question, refused_poll, rows_answer, shard_of, staged, strange, verdict}
+use Rattle.read_client.specs.Reading.{IsAsked, IsGetting, change_refused, is_gone, since_of, IsOpen, IsReading, IsSound, Moves, MovesAfterTry, MovesBy, MovesByFetched, Wants, WantsBy, after_poll, call_of, committed_answer, counted, expired, holding, last_member, look_poll, missing_poll, own_member, question, refused_poll, rows_answer, shard_of, staged, strange, verdict, newest_number}
 use Rattle.read_client.proofs.HowRead.{IsScanStage, HowGot, gains, fails, misses, spoilt, heavy, HowRead, unscanned, damaged, scanned, checked, got, how_read}
 use Rattle.read_client.proofs.Looks.{all_named, no_join, parts_some, reads_parts}
 use Rattle.read_client.proofs.Calling.{Asks, scans, gets, reads_call, tries_call}
-use Rattle.read_client.proofs.Sound.{Ends, asking, kept_trying, missing_ends}
+use Rattle.read_client.proofs.Sound.{Ends, asking, kept_trying, missing_ends, by_number}
 use Rattle.read_client.proofs.Stretch.{all_more, count_more, get_shows, behind_scan, mine_since, part_there, split_more}
 
 -- ---- after a poll
@@ -222,7 +222,7 @@ change_opens r refusals.NotPresent = either_opens (is_gone (own_member r) r.tryi
 change_opens r refusals.NotDue = either_opens (is_gone (own_member r) r.trying.loader.cached) (expired r) (strange r) refl refl
 
 refused_opens : (r : Reader) (asked : Asked) (refusal : Refusal) → opened_of (refused_poll r asked refusal) ≡ None
-refused_opens r (asks.OpenReader shard now lease) refusal = refl
+refused_opens r (asks.OpenReader shard now lease) refusal = by_number (λ (p : Poll ReadAnswer). opened_of p ≡ None) (newest_number r) (λ last. refl) refl
 refused_opens r (asks.Advance to) refusal = change_opens r refusal
 refused_opens r (asks.RenewReader now) refusal = change_opens r refusal
 refused_opens r (asks.OpenWriter shard) refusal = refl

@@ -1,5 +1,5 @@
 -- A reader is sound after what a reply comes to.
-use Rattle.std.proofs.Common.{◌≡◌, ℕ, Bool, true, false, Option, Some, None, Result, Ok, List, [], ◌∷◌, ◌⊎◌, inl, inr, refl, sym, ap, subst, ◌∙◌, arith}
+use Rattle.std.proofs.Common.{◌≡◌, ℕ, Bool, true, false, Option, Some, None, Result, Ok, List, [], ◌∷◌, ◌⊎◌, inl, inr, refl, sym, ap, subst, ◌∙◌, arith, eqb}
 use Rattle.std.specs.Prelude.{⊤, IsSome, IfSome, IsSomeAnd, unwrap_or, if◌then◌else◌}
 use Rattle.store_core.specs.declared.shards.ShardId.{ShardId}
 use Rattle.store_core.specs.declared.part_keys.PartKey.{PartKey}
@@ -19,6 +19,7 @@ use Rattle.load_core.specs.declared.fetches.Fetched.TheVariants as fetches
 use Rattle.load_core.specs.declared.gettings.Getting.{Getting}
 use Rattle.load_core.specs.declared.nexts.Next.TheVariants as nexts
 use Rattle.load_core.specs.declared.polls.Poll.{Poll}
+use Rattle.history_core.specs.declared.read_answers.ReadAnswer.TheVariants as answers
 use Rattle.load_core.specs.declared.polls.Poll.TheVariants as polls
 use Rattle.load_core.specs.declared.readies.Ready.{Ready}
 use Rattle.load_core.specs.declared.tries.Tried.{Tried}
@@ -37,9 +38,12 @@ use Rattle.read_client.specs.declared.readers.Reader.{Reader}
 use Rattle.read_client.specs.declared.stages.Stage.{Stage}
 use Rattle.read_client.specs.declared.stages.Stage.TheVariants as stages
 use Rattle.read_client.specs.Asking.{look_of}
-use Rattle.read_client.specs.Reading.{GoesBy, IsAsked, IsGetting, IsOpen, IsReading, IsSound, Moves, MovesBy, MovesByFetched, MovesAfterTry, WantsBy, Wants, after_poll, change_refused, counted, expired, holding, is_gone, missing_poll, own_member, question, look_poll, refused_poll, rows_answer, staged, strange, verdict}
+use Rattle.read_client.specs.Reading.{GoesBy, IsAsked, IsGetting, IsOpen, IsReading, IsSound, Moves, MovesBy, MovesByFetched, MovesAfterTry, WantsBy, Wants, after_poll, change_refused, counted, expired, holding, is_gone, missing_poll, own_member, question, look_poll, refused_poll, rows_answer, staged, strange, verdict, full_poll, newest_number}
 use Rattle.read_client.proofs.Moving.{idle_sound, no_open, with_trying}
 use Rattle.read_client.proofs.HowRead.{HowGot, gains, fails, misses, spoilt, heavy, HowRead, unscanned, damaged, scanned, checked, got, how_read}
+use Rattle.std.proofs.lemmas.Bool.{eqb-true}
+use Rattle.state_core.proofs.ListLemmas.{bool_cases}
+use Rattle.state_core.specs.VersionReading.{most}
 
 -- ---- a command that has ended
 
@@ -117,8 +121,13 @@ change_ends r refusals.NotDue = either_ends (is_gone (own_member r) r.trying.loa
 pub missing_ends : (r : Reader) (key : PartKey) → Ends (missing_poll r key)
 missing_ends r key = either_ends (is_gone (own_member r) r.trying.loader.cached) (expired r) (polls.Damaged (damages.Missing key)) tt tt
 
+-- an open that is refused is Spent at the last number, else 256 members stand
+pub by_number : (P : Poll ReadAnswer → Type 0) (number : ℕ) → (number ≡ most → P polls.Spent) → P (polls.Done (answers.MembersFull number)) →
+    P (full_poll number)
+by_number P number last many = elim (bool_cases (eqb number most)) [ inl e ↦ rw e (last (eqb-true number most e)) | inr e ↦ rw e many ]
+
 pub refused_ends : (r : Reader) (asked : Asked) (refusal : Refusal) → Ends (refused_poll r asked refusal)
-refused_ends r (asks.OpenReader shard now lease) refusal = tt
+refused_ends r (asks.OpenReader shard now lease) refusal = by_number Ends (newest_number r) (λ last. tt) tt
 refused_ends r (asks.Advance to) refusal = change_ends r refusal
 refused_ends r (asks.RenewReader now) refusal = change_ends r refusal
 refused_ends r (asks.OpenWriter shard) refusal = tt

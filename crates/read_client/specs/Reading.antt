@@ -1,5 +1,5 @@
 -- A reader: what it does next, and what a reply makes of it.
-use Rattle.std.specs.Prelude.{⊤, ◌≡◌, ℕ, ◌-◌, Bool, true, Option, Some, None, IsSome, IfSome, IsSomeAnd, unwrap_or, is_none, if◌then◌else◌, Result, Ok, Err, List, [], ◌∷◌}
+use Rattle.std.specs.Prelude.{⊤, ◌≡◌, ℕ, ◌-◌, Bool, true, Option, Some, None, IsSome, IfSome, IsSomeAnd, unwrap_or, is_none, if◌then◌else◌, Result, Ok, Err, List, [], ◌∷◌, ◌==◌}
 use Rattle.update_core.specs.declared.updates.Update.{Update}
 use Rattle.update_core.specs.Frontiers.{after}
 use Rattle.update_core.specs.Updates.{slice_of, sum_of}
@@ -41,6 +41,7 @@ use Rattle.read_client.specs.declared.readers.Reader.{Reader}
 use Rattle.read_client.specs.declared.stages.Stage.{Stage}
 use Rattle.read_client.specs.declared.stages.Stage.TheVariants as stages
 use Rattle.read_client.specs.Asking.{look_of, question_of}
+use Rattle.state_core.specs.VersionReading.{most}
 
 -- a reader whose open has begun
 abbrev pub opened : ShardId → ℕ → ℕ → Reader
@@ -200,8 +201,12 @@ abbrev pub change_refused : Reader → Refusal → Poll ReadAnswer
 change_refused r (refusals.Back since) = polls.Done (answers.Back since)
 change_refused r _ = if is_gone (own_member r) r.trying.loader.cached then expired r else strange r
 
+-- what an open is answered where 256 members stand: that no number is left comes before
+abbrev pub full_poll : ℕ → Poll ReadAnswer
+full_poll number = if number == most then polls.Spent else polls.Done (answers.MembersFull number)
+
 abbrev pub refused_poll : Reader → Asked → Refusal → Poll ReadAnswer
-refused_poll r (asks.OpenReader shard now lease) refusal = polls.Done (answers.MembersFull (newest_number r))
+refused_poll r (asks.OpenReader shard now lease) refusal = full_poll (newest_number r)
 refused_poll r (asks.Advance to) refusal = change_refused r refusal
 refused_poll r (asks.RenewReader now) refusal = change_refused r refusal
 refused_poll r _ refusal = polls.Done (answers.Closed (newest_number r))

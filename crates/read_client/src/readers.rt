@@ -16,7 +16,7 @@ ghost use Rattle.machine_core.specs.Polling as machines;
 ghost use Rattle.machine_core.specs.Polling.{CostGoesOn, LegalWhere, Polled, Unpolled};
 ghost use Rattle.read_client.specs.Machining.{machine};
 ghost use Rattle.read_client.specs.Polling.{CostAt};
-ghost use Rattle.read_client.specs.Reading.{IsOpen, IsReading, IsSound, LooksAt, Moves, MovesAfterCheck, MovesAfterGet, MovesAfterScan, MovesAfterTry, MovesByStage, Wants, after_poll, call_of, change_refused, committed_answer, expired, is_gone, last_member, listen_after, member_after, missing_poll, newest_number, opened, own_member, parts_poll, parts_staged, question, read_call, refused_poll, rows_answer, shard_of, since_of, staged, strange, upper_of};
+ghost use Rattle.read_client.specs.Reading.{IsOpen, IsReading, IsSound, LooksAt, Moves, MovesAfterCheck, MovesAfterGet, MovesAfterScan, MovesAfterTry, MovesByStage, Wants, after_poll, call_of, change_refused, committed_answer, expired, full_poll, is_gone, last_member, listen_after, member_after, missing_poll, newest_number, opened, own_member, parts_poll, parts_staged, question, read_call, refused_poll, rows_answer, shard_of, since_of, staged, strange, upper_of};
 ghost use Rattle.read_client.specs.declared.stages.Stage.TheVariants as stages;
 
 use crate::questions::{Look, Question};
@@ -647,7 +647,7 @@ impl Reader {
     {
         let version = self.newest_number();
         match &self.asked {
-            Some(Asked::OpenReader { .. }) => Poll::Done(ReadAnswer::MembersFull { version }),
+            Some(Asked::OpenReader { .. }) => full_poll(version),
             Some(Asked::Advance { .. }) | Some(Asked::RenewReader { .. }) => self.change_refused(
                 refusal,
             ),
@@ -672,6 +672,16 @@ impl Reader {
         }
         self.strange()
     }
+}
+
+// What an open is answered where 256 members stand. That no number is left comes before.
+fn full_poll(version: u64) -> Poll<ReadAnswer>
+    ensures { result ≡ full_poll version }
+{
+    if version == u64::MAX {
+        return Poll::Spent;
+    }
+    Poll::Done(ReadAnswer::MembersFull { version })
 }
 
 fn member_after(member: Option<u64>, answer: &ReadAnswer) -> Option<u64>

@@ -1,4 +1,6 @@
 ghost use Rattle.std.specs.Prelude.{IfOk, ◌≡◌};
+ghost use Rattle.std.specs.List.{AllByRecursion};
+ghost use Rattle.store_core.specs.Starting.{CanStart, NoneTwice, same_shard, shards_of};
 ghost use Rattle.load_core.specs.Trying.{IsSound as IsTriable};
 ghost use Rattle.read_client.specs.Reading.{IsSound};
 
@@ -7,10 +9,11 @@ use crate::untold_stores::UntoldStore;
 use load_core::{Attempt, Loader, Tried, Trying, first_version};
 use spine_core::KeyList;
 use state_core::{Kind, Transition};
-use std::alloc::Global;
+use std::alloc::{AllocError, Global};
 use std::test::Fail;
 use store_core::{
-    Bytes, Call, DirectPort, FaultAt, FaultList, MemStore, PartKey, Port, ShardId, Store, Turn,
+    BlobList, Bytes, BytesList, Call, DirectPort, FaultAt, FaultList, MemStore, PartKey, Port,
+    ShardId, ShardList, Turn,
 };
 use update_core::Frontier;
 
@@ -425,46 +428,67 @@ fn each_call_may_fail(rt: HostRuntime) -> Result<(), Fail> {
     Ok(())
 }
 
-// A store with as many members as a shard can have, joined by another client.
-fn full_store(alloc: Global) -> Result<UntoldStore, Fail> {
-    let mut store = empty_store(alloc, FaultList::new(alloc));
+// The bytes of a version with as many members as a shard can have.
+fn full_version(alloc: Global) -> Result<Bytes, Fail> {
     let mut ready = first_version(alloc, SHARD)?;
+    let step = join(Kind::Reader, 9);
     for _ in 0..256 {
-        store.call(
-            7,
-            &Call::Cas {
-                shard: SHARD,
-                expected: ready.expected,
-                bytes: ready.bytes.copy()?,
-            },
-        )?;
-        let join = Transition::Join {
-            kind: Kind::Reader,
-            now: 0,
-            lease: 9,
-        };
-        let _ = ready.after.members();
-        if let Attempt::Ready(next) = Attempt::of(alloc, &ready.after, &join)? {
+        if let Attempt::Ready(next) = Attempt::of(alloc, &ready.after, &step)? {
             ready = next;
         }
     }
-    store.call(
-        7,
-        &Call::Cas {
-            shard: SHARD,
-            expected: ready.expected,
-            bytes: ready.bytes,
-        },
-    )?;
-    Ok(store)
+    Ok(ready.bytes)
 }
 
+// A shard whose one version has this number.
+fn one_version(alloc: Global, number: u64, bytes: Bytes) -> Result<ShardList, AllocError>
+    ensures shards { IfOk result (λ shards. NoneTwice same_shard (shards_of shards)) }
+    ensures versions { IfOk result (λ shards. AllByRecursion CanStart shards) }
+{
+    let mut versions = BytesList::new(alloc);
+    versions.push(bytes)?;
+    let mut shards = ShardList::new(alloc);
+    shards.push((SHARD, number, versions))?;
+    Ok(shards)
+}
+
+// One call of the open command, and what its poll comes to.
+fn poll_word(
+    alloc: Global,
+    store: &mut UntoldStore,
+    reader: &mut Reader,
+) -> Result<(&'static str, u64, u64), Fail>
+    requires { IsSound reader.old }
+    ensures { IsSound reader.new }
+{
+    if !reader.busy() {
+        return Ok(("idle", 0, 0));
+    }
+    match reader.poll(alloc, &mut DirectPort::new(store, 3))? {
+        Poll::Done(answer) => Ok(word(Some(answer))),
+        Poll::Spent => Ok(("spent", 0, 0)),
+        _ => Ok(("another poll", 0, 0)),
+    }
+}
+
+// What a reader's open is answered where as many members stand as can, at this number; nothing can be asked after it.
+fn open_at(alloc: Global, number: u64) -> Result<(&'static str, u64, u64), Fail> {
+    let shards = one_version(alloc, number, full_version(alloc)?)?;
+    let store = MemStore::starting(alloc, BlobList::new(alloc), shards, FaultList::new(alloc))?;
+    let mut store = UntoldStore { store };
+    let mut reader = Reader::open(alloc, SHARD, 10, 100);
+    let answered = poll_word(alloc, &mut store, &mut reader)?;
+    match next(alloc, &mut store, &mut reader)? {
+        ("gone", _, _) => Ok(answered),
+        other => Ok(other),
+    }
+}
+
+// No more than 256 members stand at once; that no number is left is told before.
 #[test]
 fn a_full_shard_lets_nobody_in(rt: HostRuntime) -> Result<(), Fail> {
     let alloc = rt.alloc();
-    let mut store = full_store(alloc)?;
-    let mut reader = Reader::open(alloc, SHARD, 10, 100);
-    assert_eq!(rt; answer(alloc, &mut store, &mut reader)?, ("full", 256, 0));
-    assert_eq!(rt; next(alloc, &mut store, &mut reader)?, ("gone", 0, 0));
+    assert_eq!(rt; open_at(alloc, 256)?, ("full", 256, 0));
+    assert_eq!(rt; open_at(alloc, u64::MAX)?, ("spent", 0, 0));
     Ok(())
 }
