@@ -1,2 +1,4 @@
 pub mod Sightings
 pub mod Crossing
+pub mod Failures
+pub mod Keeping

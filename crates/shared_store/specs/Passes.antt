@@ -1,5 +1,5 @@
 -- A pass of a shared store, and a port with its pass.
-use Rattle.std.specs.Prelude.{◌≡◌, ℕ, List, Option, Some, None}
+use Rattle.std.specs.Prelude.{◌≡◌, ℕ, List, map, Option, Some, None}
 use Rattle.atomic_table.specs.Seated.{TableId}
 use Rattle.turnstile.specs.declared.views.View.{View}
 use Rattle.turnstile.specs.declared.passes.Pass.{Pass}
@@ -27,8 +27,31 @@ module _ {S : Type 0} {G : Ghosts S} where
     pub there : o ≡ Some pass
     pub stands : IsPassOf told_of entry_client t pass
 
+-- What no turn changes of a pass: the number, the stock, the share, the numbers that it answers for, and what the store told when it was
+-- taken in.
+pub record PassKept (S : Type 0) : Type 0 where
+  pub number : ℕ
+  pub low : ℕ
+  pub stock : ℕ
+  pub share : ℕ
+  pub kin : List ℕ
+  pub start : Option (S × List Entry)
+
+-- that of what a pass knows
+abbrev pub kept_view : {S : Type 0} → View S Entry → PassKept S
+kept_view v = record { number = v.number; low = v.low; stock = v.stock; share = v.share; kin = map (λ k. k.0) v.kin; start = v.start }
+
 -- what contracts see of a port: the table of its turnstile, what its pass knows, and its count of faults
 pub record PortValue (S : Type 0) : Type 0 where
   pub table : TableId
   pub known : View S Entry
   pub faults : ℕ
+
+-- what no call of a port changes, which joins and the closing need: the table of its turnstile, and this of its pass
+pub record PortKept (S : Type 0) : Type 0 where
+  pub table : TableId
+  pub pass : PassKept S
+
+-- that of a port
+abbrev pub kept_of : {S : Type 0} → PortValue S → PortKept S
+kept_of p = record { table = p.table; pass = kept_view p.known }

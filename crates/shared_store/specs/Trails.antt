@@ -1,7 +1,7 @@
 -- What has come to a history since another.
-use Rattle.std.specs.Prelude.{ℕ, ◌-◌, ◌^◌, min, List, [], length, drop, Option, Some, None}
+use Rattle.std.specs.Prelude.{ℕ, ◌+◌, ◌-◌, ◌^◌, ◌≤◌, min, List, [], ◌∷◌, length, drop, Option, Some, None}
 use Rattle.store_core.specs.declared.entries.Entry.{Entry}
-use Rattle.store_core.specs.Histories.{History}
+use Rattle.store_core.specs.Histories.{History, faults_of}
 use Rattle.store_core.specs.Ports.{with_entries}
 
 -- the client that an entry is of
@@ -28,3 +28,18 @@ since store (Some h) new = Some (store, gained (Some h) new)
 abbrev pub count_since : Option History → Option History → ℕ → ℕ
 count_since None new count = count
 count_since (Some h) new count = min (length (gained (Some h) new)) (2 ^ 64 - 1)
+
+-- what a store tells as it is taken in: itself and no entry, where it tells its history
+abbrev pub begun : {S : Type 0} → S → Option History → Option (S × List Entry)
+begun store None = None
+begun store (Some h) = Some (store, [])
+
+-- how many entries failed
+abbrev pub failed_in : List Entry → ℕ
+failed_in [] = 0
+failed_in (e ∷ es) = faults_of e.outcome + failed_in es
+
+-- The count has not fallen, and rose by so much at least. At its last value, 2^64 - 1, it may stand still.
+pub record RoseBy (more before now : ℕ) : Type 0 where
+  pub later : before ≤ now
+  pub rose : min (before + more) (2 ^ 64 - 1) ≤ now

@@ -1,6 +1,6 @@
 // A store with a count of its entries since it was taken in.
 ghost use Rattle.std.specs.Prelude.{◌≡◌};
-ghost use Rattle.shared_store.specs.Trails.{extended, gained, count_since};
+ghost use Rattle.shared_store.specs.Trails.{RoseBy, count_since, extended, failed_in, gained};
 
 use causes::one_more;
 use std::alloc::AllocError;
@@ -16,6 +16,7 @@ pub struct CountedStore<S: Store> {
     pub(crate) count: u64,
     pub(crate) opened: Snapshot<S>,
     pub ghost grown: { S.history store ≡ extended (S.history opened.value) (gained (S.history opened.value) (S.history store)) },
+    pub ghost failed: { RoseBy (failed_in (gained (S.history opened.value) (S.history store))) (S.faults opened.value) (S.faults store) },
     pub ghost counted: { count ≡ count_since (S.history opened.value) (S.history store) count },
 }
 

@@ -1,11 +1,11 @@
 // A port of a shared store.
-ghost use Rattle.std.specs.Prelude.{◌≡◌, ◌<◌, ◌≤◌, None, Ok, IfOk, OnErr};
+ghost use Rattle.std.specs.Prelude.{◌≡◌, ◌<◌, ◌≤◌, Ok, IfOk, OnErr};
 ghost use Rattle.causes.specs.Causes.{Rose};
 ghost use Rattle.store_core.specs.Ports.{Sees, GrowsByOthers, IsTurnFor, IsFailure};
 ghost use Rattle.turnstile.specs.Passes.{IsPassOf, IsPassAt, view, table_of};
 ghost use Rattle.shared_store.specs.Trails.{entry_client};
 ghost use Rattle.shared_store.specs.Fronts.{front_of, HadTurn, HadAnswer, faults_after};
-ghost use Rattle.shared_store.specs.Passes.{told_of};
+ghost use Rattle.shared_store.specs.Passes.{PortKept, kept_of, told_of};
 
 use crate::counted_stores::CountedStore;
 use crate::single_turns::single_turn;
@@ -76,7 +76,9 @@ impl<'a, S: Store> Port for SharedPort<'a, S> {
 
     ghost misses = { λ p. p.known.misses };
 
-    ghost loan = { λ _. None };
+    ghost Kept = { PortKept S };
+
+    ghost kept = { kept_of };
 
     /// One call of the store, in a turn of the port's pass; `Busy` exactly where the turn was found held.
     /// It waits for nobody, and fails only for want of memory.
@@ -91,7 +93,7 @@ impl<'a, S: Store> Port for SharedPort<'a, S> {
         ensures cause { IfOk result (λ turn. IsFailure turn → Rose self.old.faults self.new.faults) }
         ensures faults { self.old.faults ≤ self.new.faults }
         ensures misses { self.old.known.misses ≤ self.new.known.misses }
-        ensures loan { ⟦<SharedPort<'a, S> as Port>⟧.loan self.new ≡ ⟦<SharedPort<'a, S> as Port>⟧.loan self.old }
+        ensures kept { kept_of self.new ≡ kept_of self.old }
 
         // What it does to the pass, exactly, and that it counts Failed alone.
         ensures table { self.new.table ≡ self.old.table }

@@ -1,10 +1,10 @@
 // A store that threads call by turns.
-ghost use Rattle.std.specs.Prelude.{◌≡◌, ◌^◌, ◌<◌, ℕ, IfOk, IfErr};
+ghost use Rattle.std.specs.Prelude.{◌≡◌, ◌^◌, ◌<◌, ℕ, IfOk, IfErr, IfSome};
 ghost use mathlib.Core.List.{IsPrefix};
 ghost use Rattle.turnstile.specs.Passes.{view, table_of};
 ghost use Rattle.turnstile.specs.Plays.{left_of, right_of, both_of, EachIn};
 ghost use Rattle.turnstile.specs.Rule.{first_view, times, entries_by};
-ghost use Rattle.shared_store.specs.Trails.{entry_client};
+ghost use Rattle.shared_store.specs.Trails.{RoseBy, begun, entry_client, failed_in};
 ghost use Rattle.shared_store.specs.Fronts.{front_of};
 
 use crate::counted_stores::CountedStore;
@@ -27,6 +27,7 @@ impl<S: Store> SharedStore<S> {
         ensures pass { IfOk result (λ made. IsPassOfStore made.0 made.1) }
         ensures first { IfOk result (λ made. view made.1 ≡ first_view (view made.1).start) }
         ensures front { IfOk result (λ made. front_of S.history (view made.1) ≡ S.history store) }
+        ensures start { IfOk result (λ made. (view made.1).start ≡ begun store (S.history store)) }
         ensures memory { IfErr result (λ back. back ≡ store) }
     {
         match Turnstile::new(alloc, CountedStore::new(store)) {
@@ -83,6 +84,8 @@ impl<S: Store> SharedStore<S> {
         requires whole { (view pass).share ≡ 2 ^ 64 }
         ensures history { S.history result ≡ front_of S.history (view pass) }
         ensures own { EachIn entry_client (view pass).kin (view pass).gain }
+        // Its count of faults hasn't fallen since then, and rose by each entry that failed, where it tells its history.
+        ensures failed { IfSome (view pass).start (λ opened. RoseBy (failed_in (view pass).gain) (S.faults opened.0) (S.faults result)) }
     {
         let SharedStore { turnstile } = self;
         turnstile.close(pass).into_store()

@@ -6,7 +6,7 @@ ghost use Rattle.turnstile.specs.Passes.{IsPassOf, view};
 ghost use Rattle.turnstile.specs.Plays.{missed};
 ghost use Rattle.shared_store.specs.Trails.{entry_client};
 ghost use Rattle.shared_store.specs.Fronts.{front_of, HadTurn};
-ghost use Rattle.shared_store.specs.Passes.{told_of};
+ghost use Rattle.shared_store.specs.Passes.{kept_view, told_of};
 
 use crate::counted_stores::CountedStore;
 use std::alloc::AllocError;
@@ -22,6 +22,7 @@ pub(crate) fn single_turn<S: Store>(
     requires { IsPassOf told_of entry_client turnstile.now pass }
     ensures pass { IsPassOf told_of entry_client turnstile.now result.0 }
     ensures view { MatchOption result.1 (view result.0 ≡ missed (view pass)) (λ _. HadTurn (view pass) (view result.0)) }
+    ensures kept { kept_view (view result.0) ≡ kept_view (view pass) }
     ensures seen { IfSome result.1 (λ answer. MatchResult answer
         (λ reply. GainsWhereTold (view pass).number (front_of S.history (view pass)) (front_of S.history (view result.0)) call.now reply)
         (λ _. GrowsByOthers (view pass).number (front_of S.history (view pass)) (front_of S.history (view result.0)))) }

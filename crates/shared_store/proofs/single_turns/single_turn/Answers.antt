@@ -5,6 +5,7 @@ use Rattle.turnstile.specs.Plays.{EachBy}
 use Rattle.shared_store.specs.Trails.{entry_client, extended, gained, since}
 use Rattle.shared_store.specs.Passes.{told_of}
 use Rattle.shared_store.proofs.Sightings.{turn_gains, turn_seen}
+use Rattle.shared_store.proofs.Keeping.{turn_keeps}
 use Rattle.shared_store.proofs.single_turns.single_turn.Goals as goal
 
 pub give-requires-clause-gains : goal.give-requires-clause-gains
@@ -34,3 +35,9 @@ returns-clause-seen g c =
     turn_seen history (view c.args.pass) (view h.pass) (view c.give.result) gave.0 was.opened.value (history was.store) (history now.store) c.number-number.result c.args.call.now c.call-answer.result
     t.view_is t.begins c.requires.own c.requires.credited t.held.credited was.grown grown (ap told_of c.value.ensures.value ∙ t.tells) gave.2 (sym told_now ∙ gave.1.0)
     (c.number-number.ensures ∙ ap (λ v. v.number) t.view_is) c.call-answer.ensures.entry c.call-answer.ensures.memory
+
+pub returns-clause-kept : goal.returns-clause-kept
+returns-clause-kept g c =
+    let h = c.in-Ok.held in
+    let gave = c.give.ensures.gains in
+    turn_keeps (view c.args.pass) (view h.pass) (view c.give.result) gave.0 c.in-Ok.ensures.held.view_is gave.2

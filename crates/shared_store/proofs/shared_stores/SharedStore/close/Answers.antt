@@ -1,0 +1,15 @@
+use Rattle.std.proofs.Common.{sym, ap, subst, ◌∙◌}
+use Rattle.turnstile.specs.History.{with_more}
+use Rattle.turnstile.specs.Passes.{view}
+use Rattle.shared_store.specs.Trails.{RoseBy, failed_in, gained}
+use Rattle.shared_store.proofs.Failures.{closed_fails}
+use Rattle.shared_store.proofs.shared_stores.SharedStore.close.Goals as goal
+
+pub returns-clause-failed : goal.returns-clause-failed
+returns-clause-failed g c =
+    let closed = c.close.result in
+    let history = g.S.Store.history in
+    let v = view c.args.pass in
+    let rose = subst (λ s. RoseBy (failed_in (gained (history closed.opened.value) (history closed.store))) (g.S.Store.faults closed.opened.value) (g.S.Store.faults s)) (sym c.into_store.ensures) closed.failed in
+    closed_fails g.S.Store.faults closed.opened.value (history closed.opened.value) (history closed.store) v.start v.gain (g.S.Store.faults c.into_store.result)
+    rose (c.close.ensures.tells ∙ ap (λ o. with_more o v.gain) (sym c.requires.pass.start))
