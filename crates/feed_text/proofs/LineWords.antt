@@ -188,8 +188,10 @@ row_here line datum bytes time diff stored small fits is same some few lacks bac
 )
 
 -- where a datum is refused
-pub refused_size : (fault : DatumFault) (n m : ℕ) → fault ≡ DatumSize n → ((fault ≡ Memory) ⊎ ((fault ≡ DatumSize m) × ((m ≡ 0) ⊎ (255 < m)))) → (m ≡ 0) ⊎ (255 < m)
-refused_size fault n m is h = ⊎_elim (λ (e : fault ≡ Memory). cc) (λ (p : (fault ≡ DatumSize m) × ((m ≡ 0) ⊎ (255 < m))). p.1) h
+pub refused_size : (fault : DatumFault) (n m : ℕ) → fault ≡ DatumSize n
+    → (((fault ≡ Memory) × (1 ≤ m) × (m ≤ 255)) ⊎ ((fault ≡ DatumSize m) × ((m ≡ 0) ⊎ (255 < m)))) → (m ≡ 0) ⊎ (255 < m)
+refused_size fault n m is h =
+    ⊎_elim (λ (e : (fault ≡ Memory) × (1 ≤ m) × (m ≤ 255)). let bad : fault ≡ Memory = e.0 in cc) (λ (p : (fault ≡ DatumSize m) × ((m ≡ 0) ⊎ (255 < m))). p.1) h
 
 pub same_word : (word told name : List ℕ) (r : Bool) → r ≡ pointwise eqb word told → r ≡ true → told ≡ name → word ≡ name
 same_word word told name r says is same = (slice_eq-Decides Decides-eqb word told r says).0 is ∙ same

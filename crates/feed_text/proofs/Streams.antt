@@ -1,7 +1,7 @@
 -- What a sink has taken of a piece, and what a source has given of a text, so far.
-use Rattle.std.proofs.Common.{◌≡◌, ℕ, ◌+◌, ◌-◌, ◌<◌, ◌≤◌, min, Option, Some, None, List, [], ◌∷◌, ◌++◌, length, take, drop, length-append, refl, sym, ap, subst, ◌∙◌, append_assoc, arith}
+use Rattle.std.proofs.Common.{◌≡◌, ℕ, ◌+◌, ◌-◌, ◌<◌, ◌≤◌, min, Option, Some, None, List, [], ◌++◌, length, take, drop, length-append, refl, sym, ap, subst, ◌∙◌, append_assoc, arith}
 use Rattle.std.proofs.lemmas.List.{append-nil, take-append-drop, take_rest, drop-drop, nil_from_length}
-use Rattle.feed_text.specs.Streams.{Gains, GainsFront, Takes, AtEnd, Grows, TakesAll, ReadsUpTo}
+use Rattle.feed_text.specs.Streams.{Gains, GainsFront, Takes, Grows, ReadsUpTo}
 
 -- the sink has taken the bytes before the rest
 pub record GainsBefore (taken now : Option (List ℕ)) (bytes rest : List ℕ) : Type 0 where

@@ -1,5 +1,5 @@
 // Commands in order.
-ghost use Rattle.std.specs.Prelude.{◌≡◌, [], ◌∷◌, ◌++◌, OnOk, OnErr};
+ghost use Rattle.std.specs.Prelude.{◌≡◌, [], ◌∷◌, ◌++◌, IfOk, OnOk, OnErr};
 
 use crate::feed_lines::FeedLine;
 use std::alloc::{AllocError, Global};
@@ -18,6 +18,16 @@ impl Model for FeedLines {
     ghost Value = { List FeedLine };
 
     ghost view = { λ l. l.items.items };
+}
+
+fn copied(alloc: Global, items: &[FeedLine]) -> Result<Vec<FeedLine>, AllocError>
+    ensures { IfOk result (λ copy. copy.items ≡ items.now) }
+{
+    let mut copy = Vec::new(alloc);
+    for item in items {
+        copy.push(item.copy(alloc)?)?;
+    }
+    Ok(copy)
 }
 
 impl FeedLines {
@@ -52,5 +62,13 @@ impl FeedLines {
     {
         let FeedLines { items } = self;
         items
+    }
+
+    /// An equal list. It fails only for want of memory.
+    pub fn copy(&self, alloc: Global) -> Result<FeedLines, AllocError>
+        ensures { IfOk result (λ copy. copy ≡ self.now) }
+    {
+        let items = copied(alloc, &self.items)?;
+        Ok(FeedLines { items })
     }
 }

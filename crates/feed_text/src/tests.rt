@@ -126,7 +126,8 @@ fn other_texts_are_refused_at_a_line(rt: HostRuntime) {
 #[test]
 fn an_append_has_what_its_lines_say(rt: HostRuntime) -> Result<(), Fail> {
     let feed = parse_feed(rt.alloc(), b"append 3 closed\n4 -7 a b\n.\nsnapshot 9\n")?;
-    let lines = feed.lines.as_slice();
+    let copy = feed.lines.copy(rt.alloc())?;
+    let lines = copy.as_slice();
     assert_eq!(rt; lines.len(), 2);
     assert!(rt; matches!(&lines[1], FeedLine::Snapshot { t: 9 }));
     if let FeedLine::Append(append) = &lines[0] {

@@ -1,5 +1,7 @@
 // Laws of histories, each the contract of a function that does nothing.
-ghost use Rattle.std.specs.Prelude.{◌≡◌, ◌+◌, ◌++◌, ◌∷◌, false, List, Option, ℕ};
+ghost use Rattle.std.specs.Prelude.{◌≡◌, ◌↔◌, ◌+◌, ◌++◌, ◌∷◌, false, true, List, Option, Some, ℕ};
+ghost use Rattle.part_codec.specs.Parts.{Part};
+ghost use Rattle.history_core.specs.Readings.{are_bytes, rows_in};
 ghost use Rattle.store_core.specs.declared.entries.Entry.{Entry};
 ghost use Rattle.store_core.specs.declared.shards.ShardId.{ShardId};
 ghost use Rattle.store_core.specs.Stores.{Stored};
@@ -14,6 +16,11 @@ ghost use Rattle.update_core.specs.Updates.{OutOf, slice_of};
 ghost use Rattle.history_core.specs.AnswerLaws.{AcceptedGrows, AppendsAccepted, CommittedOnce, MemberNew, OneAppendAnswer, OneReadAnswer, RowsGot, StepGot, StepsJoin};
 ghost use Rattle.history_core.specs.Answers.{NewestShown};
 ghost use Rattle.history_core.specs.Laws.{LawfulStandsFor, LeasedPresent, LeasedUnchanged, LawfulPrefix, FloorNeverFalls};
+
+/// Rows are read from bytes exactly where each number is that of a byte and the bytes are the part with these rows.
+pub fn rows_in_part()
+    ensures { (rows : List Update) (bytes : List ℕ) → (rows_in bytes ≡ Some rows) ↔ ((are_bytes bytes ≡ true) × Part rows bytes) }
+{}
 
 /// From a store that stands for a list, each lawful history leads to a store that stands for the accepted list.
 pub fn lawful_stands_for()

@@ -1,5 +1,5 @@
 // Reading of parts.
-ghost use Rattle.std.specs.Prelude.{◌≡◌, List, length, IfOk, Ok, None};
+ghost use Rattle.std.specs.Prelude.{◌≡◌, List, [], length, IfOk, Ok, None};
 ghost use Rattle.std.specs.Int.{w32, w64};
 ghost use Rattle.store_core.specs.Stores.{last_of};
 ghost use Rattle.update_core.specs.declared.updates.Update.{Update as Row};
@@ -7,13 +7,16 @@ ghost use Rattle.part_codec.specs.Parts.{Part};
 ghost use Rattle.part_codec.specs.Reading.{Gives, place, byte_at, number_at, magic, magic_at, form_at, count_at, length_at, datum_at, bits_at, fields_at, follows, row_at, rows_at, all_of};
 
 use crate::part_faults::PartFault;
-use std::alloc::Global;
+use std::alloc::{AllocError, Global};
 use update_core::{Datum, Update, UpdateList};
 
 // The letters PART.
 const MAGIC: u32 = 0x5041_5254;
 
 const MAX_ROWS: u32 = 4096;
+
+// A row's length, a datum of one byte, a time and a difference.
+const LEAST_ROW: usize = 18;
 
 fn place_of(total: usize, rest: &[u8]) -> u64
     ensures { result ≡ place total rest.now }
@@ -191,6 +194,15 @@ fn next_row<'a>(
     }
 }
 
+// An empty list with memory for the rows of a part, or for as many as the bytes that are left can hold, if those are fewer.
+fn room_for(alloc: Global, count: u32, left: usize) -> Result<UpdateList, AllocError>
+    ensures { IfOk result (λ rows. rows ≡ []) }
+{
+    let most = left / LEAST_ROW;
+    let items = Vec::with_capacity(alloc, most.min(count as usize))?;
+    Ok(UpdateList::from_items(items))
+}
+
 fn next_rows(
     alloc: Global,
     total: usize,
@@ -199,7 +211,7 @@ fn next_rows(
 ) -> Result<(UpdateList, &[u8]), PartFault>
     ensures { Gives (λ x. (x.0, x.1.now)) result (rows_at total count None bytes.now) }
 {
-    let mut rows = UpdateList::new(alloc);
+    let mut rows = room_for(alloc, count, bytes.len())?;
     let mut rest = bytes;
     for _ in 0..count {
         let (row, after) = next_row(alloc, total, &rows, rest)?;

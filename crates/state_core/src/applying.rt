@@ -156,7 +156,7 @@ impl State {
     }
 
     // Makes what the transition makes. Only a member or a batch that it brings takes memory.
-    fn make(&mut self, step: &Transition, alloc: Global) -> Result<(), AllocError>
+    fn make(&mut self, alloc: Global, step: &Transition) -> Result<(), AllocError>
         requires { refusal_of self.old step.now ≡ None }
         ensures ok { OnOk result (Applies self.old step.now self.new) }
         ensures memory { OnErr result (takes_memory step.now ≡ true) }
@@ -206,7 +206,7 @@ impl State {
     /// Makes the next state, whose number is one more. Where the transition meets a refusal that is the answer; else
     /// `Memory` where memory for the member or the batch that it brings is refused, so never for `Leave`, `Renew`,
     /// `Advance` and `Expire`. A refusal leaves the state as it was.
-    pub fn apply(&mut self, step: &Transition, alloc: Global) -> Result<(), Refusal>
+    pub fn apply(&mut self, alloc: Global, step: &Transition) -> Result<(), Refusal>
         ensures ok { OnOk result (Applies self.old step.now self.new) }
         ensures refused { IfErr result (λ refusal. IsRefusal self.old step.now refusal) }
         ensures unchanged { OnErr result (self.new ≡ self.old) }
@@ -214,7 +214,7 @@ impl State {
         match self.refusal_of(step) {
             Some(refusal) => Err(refusal),
             None => {
-                self.make(step, alloc)?;
+                self.make(alloc, step)?;
                 Ok(())
             }
         }

@@ -137,7 +137,7 @@ fn is_refused(
     let Some(looked) = state.refusal_of(step) else {
         return Ok(false);
     };
-    let Err(answer) = state.apply(step, alloc) else {
+    let Err(answer) = state.apply(alloc, step) else {
         return Ok(false);
     };
     Ok(told(&looked) == want && told(&answer) == want && is_same(state, &before))
@@ -145,19 +145,19 @@ fn is_refused(
 
 // Applies a step and tells the state's numbers.
 fn after(alloc: Global, state: &mut State, step: &Transition) -> Result<[u64; 8], Refusal> {
-    state.apply(step, alloc)?;
+    state.apply(alloc, step)?;
     Ok(numbers(state))
 }
 
 // A writer, a reader from 5 on and a keeper, and two batches up to 20.
 fn busy(alloc: Global) -> Result<State, Refusal> {
     let mut state = State::init(alloc, SHARD);
-    state.apply(&join(Kind::Writer, 0, 0), alloc)?;
-    state.apply(&join(Kind::Reader, 0, 100), alloc)?;
-    state.apply(&join(Kind::Keeper, 5, 1000), alloc)?;
-    state.apply(&append(alloc, 0, 1, 0, 3, 4)?, alloc)?;
-    state.apply(&append(alloc, 0, 2, 10, 2, 2)?, alloc)?;
-    state.apply(&Transition::Advance { member: 1, to: 5 }, alloc)?;
+    state.apply(alloc, &join(Kind::Writer, 0, 0))?;
+    state.apply(alloc, &join(Kind::Reader, 0, 100))?;
+    state.apply(alloc, &join(Kind::Keeper, 5, 1000))?;
+    state.apply(alloc, &append(alloc, 0, 1, 0, 3, 4)?)?;
+    state.apply(alloc, &append(alloc, 0, 2, 10, 2, 2)?)?;
+    state.apply(alloc, &Transition::Advance { member: 1, to: 5 })?;
     Ok(state)
 }
 
@@ -239,7 +239,7 @@ fn no_more_than_256_members_join(rt: HostRuntime) -> Result<(), Fail> {
     let alloc = rt.alloc();
     let mut state = State::init(alloc, SHARD);
     for _ in 0..256 {
-        state.apply(&join(Kind::Keeper, 0, 1), alloc)?;
+        state.apply(alloc, &join(Kind::Keeper, 0, 1))?;
     }
     let step = join(Kind::Writer, 0, 0);
     assert!(rt; is_refused(alloc, &mut state, &step, (8, 256))?);
@@ -250,7 +250,7 @@ fn no_more_than_256_members_join(rt: HostRuntime) -> Result<(), Fail> {
 fn a_lease_runs_out_at_its_last_moment(rt: HostRuntime) -> Result<(), Fail> {
     let alloc = rt.alloc();
     let mut state = State::init(alloc, SHARD);
-    state.apply(&join(Kind::Reader, 0, 100), alloc)?;
+    state.apply(alloc, &join(Kind::Reader, 0, 100))?;
     let early = Transition::Expire { now: 99 };
     assert!(rt; is_refused(alloc, &mut state, &early, (10, 0))?);
     let due = Transition::Expire { now: 100 };
