@@ -51,9 +51,12 @@ use Rattle.read_client.specs.declared.readers.Reader.{Reader}
 use Rattle.read_client.specs.declared.stages.Stage.{Stage}
 use Rattle.read_client.specs.declared.stages.Stage.TheVariants as stages
 use Rattle.read_client.specs.Asking.{look_of, question_of, step_question}
-use Rattle.read_client.specs.Reading.{AsksAs, IsOpen, IsSound, Moves, MovesBy, MovesByFetched, call_by, call_of, counted, holding, look_poll, own_member, question, read_call, shard_of, verdict}
+use Rattle.read_client.specs.Reading.{AsksAs, IsOpen, IsSound, Moves, MovesBy, MovesByFetched, call_by, call_of, counted, holding, look_poll, own_member, question, read_call, shard_of, verdict, IsAsked}
 use Rattle.read_client.proofs.HowRead.{IsScanStage, HowGot, gains, fails, misses, spoilt, heavy, HowRead, unscanned, damaged, scanned, checked, got, how_read}
 use Rattle.read_client.proofs.Sound.{Ends, refused_ends, missing_ends}
+use Rattle.load_core.specs.Firsts.{MakesFirst}
+use Rattle.load_core.proofs.Firsts.{tried_first}
+use Rattle.read_client.specs.Machining.{Opens}
 
 -- ---- which polls come of a reply
 
@@ -185,6 +188,43 @@ carries r call s e = go (question r) refl
         by : Asks r call → OnlyCarries (shard_of r) r.trying.step call
         by (scans st is) = subst (OnlyCarries (shard_of r) r.trying.step) (sym is) tt
         by (gets key st at is) = subst (OnlyCarries (shard_of r) r.trying.step) (sym is) tt
+
+-- a shard's first version is made by an open alone, since a member was seen to join
+pub makes_first : (r : Reader) (call : Call) → IsSound r → IsOpen r → call_of r ≡ Some call → MakesFirst (Opens r.asked) (shard_of r) call
+makes_first r call s is_open e = go (question r) refl
+  where
+    known : {P : Type 0} → r.trying.loader.cached ≡ None → (o : Option ℕ) → IfSome o (λ member. IsSome r.trying.loader.cached) → IsSome o → P
+    known none None h some = absurd (let bad : false ≡ true = some in cc)
+    known none (Some member) h some = absurd (let bad : false ≡ true = subst (λ (c : Option ShardState). IsSome c) none h in cc)
+
+    some_member : (o : Option ℕ) (Q : ℕ → Type 0) → IsSomeAnd o Q → IsSome o
+    some_member None Q h = absurd h
+    some_member (Some member) Q h = refl
+
+    opens : r.trying.loader.cached ≡ None → Opens r.asked
+    opens none = of r.asked is_open s.asked
+      where
+        of : (asked : Option Asked) → IsSome asked → IfSome asked (IsAsked r) → Opens asked
+        of None o k = absurd (let bad : false ≡ true = o in cc)
+        of (Some (asks.OpenReader shard now lease)) o k = tt
+        of (Some (asks.Snapshot t)) o k = known none r.member s.known k
+        of (Some (asks.Listen as_of)) o k = known none r.member s.known k.0
+        of (Some asks.Next) o k = known none r.member s.known k.0
+        of (Some (asks.Advance to)) o k = known none r.member s.known (some_member r.member (λ member. r.trying.step ≡ Advance member to) k)
+        of (Some (asks.RenewReader now)) o k = known none r.member s.known (some_member r.member (λ member. r.trying.step ≡ Renew member now) k)
+        of (Some asks.CloseReader) o k = known none r.member s.known (some_member r.member (λ member. r.trying.step ≡ Leave member) k)
+        of (Some (asks.OpenWriter shard)) o k = absurd k
+        of (Some (asks.Append rows expected new)) o k = absurd k
+        of (Some asks.CloseWriter) o k = absurd k
+
+    go : (q : Option Question) → question r ≡ q → MakesFirst (Opens r.asked) (shard_of r) call
+    go None none =
+        subst (MakesFirst (Opens r.asked) (shard_of r)) (sym (tries_call r call none e)) (tried_first (Opens r.asked) r.trying s.trying opens)
+    go (Some q) some = by (reads_call r call q some e)
+      where
+        by : Asks r call → MakesFirst (Opens r.asked) (shard_of r) call
+        by (scans st is) = subst (MakesFirst (Opens r.asked) (shard_of r)) (sym is) tt
+        by (gets key st at is) = subst (MakesFirst (Opens r.asked) (shard_of r)) (sym is) tt
 
 -- ---- what its call is allowed by
 

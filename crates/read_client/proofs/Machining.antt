@@ -22,7 +22,7 @@ use Rattle.read_client.specs.declared.stages.Stage.{Stage}
 use Rattle.read_client.specs.declared.stages.Stage.TheVariants as stages
 use Rattle.read_client.specs.Machining.{Ended, Kept, kept, machine}
 use Rattle.read_client.specs.Reading.{IsOpen, Moves, Prepares, Wants, WantsBy, after_poll, call_by, call_of, counted, question, read_call, shard_of}
-use Rattle.read_client.proofs.Calling.{Asks, Comes, ends, fault, gets, more, scans, allowed, carries, comes, reads_call, tries_call}
+use Rattle.read_client.proofs.Calling.{Asks, Comes, ends, fault, gets, more, scans, allowed, carries, comes, makes_first, reads_call, tries_call}
 use Rattle.read_client.proofs.Costs.{cost_poll}
 use Rattle.read_client.proofs.Effects.{counted_more, effect_of}
 use Rattle.read_client.proofs.FollowsOn.{moved_on, wants_on}
@@ -180,6 +180,7 @@ keeps = record {
   counted = counted_more;
   effect = λ r new call reply poll sound is call_is m. record {
     carries = carries r call sound call_is;
+    first = makes_first r call sound is call_is;
     shown = refusal_shown r new call reply poll call_is m;
     effect = effect_of r new call reply poll sound call_is m;
   };

@@ -1,5 +1,5 @@
 -- A reader as a machine that is polled. Entries go newest first.
-use Rattle.std.specs.Prelude.{⊤, ◌≡◌, ℕ, Option, None, IfSome, List}
+use Rattle.std.specs.Prelude.{⊤, ◌≡◌, ℕ, Option, Some, None, IfSome, List}
 use Rattle.update_core.specs.declared.updates.Update.{Update}
 use Rattle.store_core.specs.declared.shards.ShardId.{ShardId}
 use Rattle.store_core.specs.declared.calls.Call.{Call}
@@ -8,10 +8,12 @@ use Rattle.store_core.specs.declared.entries.Entry.{Entry}
 use Rattle.store_core.specs.Stores.{Stored}
 use Rattle.state_core.specs.declared.transitions.Transition.{Transition}
 use Rattle.history_core.specs.declared.asked.Asked.{Asked}
+use Rattle.history_core.specs.declared.asked.Asked.TheVariants as asks
 use Rattle.history_core.specs.declared.read_answers.ReadAnswer.{ReadAnswer}
 use Rattle.history_core.specs.Legal.{Command, LegalReadBack}
 use Rattle.load_core.specs.declared.polls.Poll.{Poll}
 use Rattle.load_core.specs.Effects.{IsShown}
+use Rattle.load_core.specs.Firsts.{MakesFirst}
 use Rattle.load_core.specs.Runs.{OnlyCarries}
 use Rattle.machine_core.specs.Machines.{Words}
 use Rattle.read_client.specs.declared.readers.Reader.{Reader}
@@ -30,9 +32,16 @@ pub record Kept : Type 0 where
 abbrev pub kept : Reader → Kept
 kept r = record { asked = r.asked; member = r.member; listen = r.listen; shard = shard_of r; step = r.trying.step }
 
--- what one call has done: a Cas carries what was asked, a refusal is what a Scan shows, and it has committed no more than this
+-- the command opens
+abbrev pub Opens : Option Asked → Type 0
+Opens (Some (asks.OpenReader shard now lease)) = ⊤
+Opens _ = ⊥
+
+-- What one call has done: a Cas carries what was asked, or else makes the shard's first version for an open; a refusal is what a Scan
+-- shows; and it has committed no more than this.
 pub record Did (k : Kept) (call : Call) (reply : Reply) (poll : Poll ReadAnswer) : Type 0 where
   pub carries : OnlyCarries k.shard k.step call
+  pub first : MakesFirst (Opens k.asked) k.shard call
   pub shown : IsRefusal poll → IsShown k.shard call reply
   pub effect : Effect k.shard k.step call reply poll
 
