@@ -20,5 +20,7 @@ fn numbers_are_kept_in_order(rt: HostRuntime) -> Result<(), Fail> {
     numbers.push(3)?;
     assert_eq!(rt; numbers.as_slice(), [5, 3].as_slice());
     assert!(rt; numbers.contains(3) && !numbers.contains(4));
+    let copy = numbers.copy(rt.alloc())?;
+    assert_eq!(rt; copy.as_slice(), [5, 3].as_slice());
     Ok(())
 }

@@ -1,7 +1,8 @@
-use crate::set_by_two;
+use crate::{open_at, set_by_two};
 use shared_store::{SharedPort, SharedStore};
 use std::test::Fail;
 use store_core::{Call, Entry, FaultList, MemStore, Port, Reply, ShardId, Turn};
+use write_client::WriteAnswer;
 
 // The place of a Set among the keys of its member.
 fn index_of(entry: &Entry) -> Option<(u64, u64)> {
@@ -15,6 +16,14 @@ fn is_no_version(turn: Turn) -> bool {
     match turn {
         Turn::Reply(Reply::Version(None)) => true,
         _ => false,
+    }
+}
+
+// The member that was opened, and the version.
+fn opened(answer: Option<WriteAnswer>) -> Option<(u64, u64)> {
+    match answer {
+        Some(WriteAnswer::Opened { member, version }) => Some((member, version)),
+        _ => None,
     }
 }
 
@@ -54,5 +63,21 @@ fn a_port_asks_the_store(rt: HostRuntime) -> Result<(), Fail> {
     let call = Call::Head { shard: ShardId(5) };
     let answered = is_no_version(port.try_call(&call)?);
     assert!(rt; answered);
+    Ok(())
+}
+
+// A writer that is polled through a shared port to its end gives the pass back, and the store is closed: the open's first version is
+// that of the shard, and it joins as member 0 by the next one.
+#[test]
+fn a_writer_opens_at_a_shared_store(rt: HostRuntime) -> Result<(), Fail> {
+    let store = MemStore::new(rt.alloc(), FaultList::new(rt.alloc()));
+    let Ok((store, answer)) = open_at(rt.alloc(), store, ShardId(5)) else {
+        panic!(rt; "no memory")
+    };
+    assert!(rt; opened(answer) == Some((0, 1)));
+    assert_eq!(rt; store.trail().len(), 3);
+    for entry in store.trail() {
+        assert_eq!(rt; entry.client, 1);
+    }
     Ok(())
 }

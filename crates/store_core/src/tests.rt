@@ -168,3 +168,45 @@ fn lists_are_in_order(rt: HostRuntime) -> Result<(), Fail> {
     assert!(rt; shards.as_slice()[0].2.as_slice().len() == 1);
     Ok(())
 }
+
+#[test]
+fn copies_have_the_same_items(rt: HostRuntime) -> Result<(), Fail> {
+    let alloc = rt.alloc();
+    let faults = fault(alloc, true)?.copy(alloc)?;
+    assert!(rt; faults.as_slice().len() == 1 && faults.as_slice()[0].took);
+    let blobs = one_blob(alloc, bytes(alloc, b"x")?)?.copy(alloc)?;
+    assert!(rt; blobs.as_slice().len() == 1 && blobs.as_slice()[0].0 == KEY);
+    assert_eq!(rt; blobs.as_slice()[0].1.as_slice(), b"x".as_slice());
+    let shards = one_shard(alloc, bytes(alloc, b"v")?)?.copy(alloc)?;
+    assert!(rt; shards.as_slice().len() == 1 && shards.as_slice()[0].1 == u64::MAX);
+    assert_eq!(rt;
+        shards.as_slice()[0].2.as_slice()[0].as_slice(),
+        b"v".as_slice()
+    );
+    let mut versions = VersionList::new(alloc);
+    versions.push(Version {
+        number: 7,
+        bytes: bytes(alloc, b"v")?,
+    })?;
+    let copy = versions.copy(alloc)?;
+    assert!(rt; copy.as_slice().len() == 1 && copy.as_slice()[0].number == 7);
+    assert_eq!(rt; copy.as_slice()[0].bytes.as_slice(), b"v".as_slice());
+    Ok(())
+}
+
+// A Cas on a shard with no version, a Get and a Delete of a key that isn't there, and a Cas that has been made.
+#[test]
+fn calls_that_change_a_store(rt: HostRuntime) -> Result<(), Fail> {
+    let alloc = rt.alloc();
+    let mut contents = Contents::new(alloc);
+    let first = cas(alloc, None)?;
+    assert!(rt; contents.changes(&first));
+    assert!(rt; !contents.changes(&cas(alloc, Some(0))?));
+    assert!(rt; !contents.changes(&Call::Get { key: KEY }));
+    assert!(rt; contents.changes(&Call::Delete { key: KEY }));
+    let made = contents.apply(alloc, &first)?;
+    assert!(rt; matches!(made, Reply::Committed(0)));
+    assert!(rt; !contents.changes(&first));
+    assert!(rt; contents.changes(&cas(alloc, Some(0))?));
+    Ok(())
+}
