@@ -67,7 +67,8 @@ call_fails (Some h) was now n call r b before after grown adds so_far later rose
 
 -- one more call, by the count of entries
 pub call_counts : (o was now : Option History) (n : ℕ) (call : Call) (r : Reply) (count next : ℕ) →
-    was ≡ extended o (gained o was) → Adds was now n call r → count ≡ count_since o was count → next ≡ min (count + 1) (2 ^ 64 - 1) → next ≡ count_since o now next
+    was ≡ extended o (gained o was) → Adds was now n call r → count ≡ count_since o was count →
+    next ≡ min (count + 1) (2 ^ 64 - 1) → next ≡ count_since o now next
 call_counts None was now n call r count next grown adds so_far is = refl
 call_counts (Some h) was now n call r count next grown adds so_far is =
     let (o, more, answered) = gains_one h was now n call r grown adds in
