@@ -21,7 +21,9 @@ times_kept n (k ∷ ks) (l ∷ ls) e =
     λ i. once (first i == n) + times_kept n ks ls rest i
 
 -- a turn in which the pass knew u, and w after it
-pub turn_keeps : {S : Type 0} (v u w : View S Entry) (own : List Entry) → u ≡ turned v u.gain → w ≡ gave_back u own → kept_view w ≡ kept_view v
+pub turn_keeps : {S : Type 0} (v u w : View S Entry) (own : List Entry) →
+    u ≡ turned v u.gain → w ≡ gave_back u own → kept_view w ≡ kept_view v
 turn_keeps v u w own took gave =
-    let at_give : kept_view w ≡ kept_view (gave_back (turned v u.gain) own) = ap kept_view gave ∙ ap (λ x. kept_view (gave_back x own)) took in
+    let at_give : kept_view w ≡ kept_view (gave_back (turned v u.gain) own) =
+    ap kept_view gave ∙ ap (λ x. kept_view (gave_back x own)) took in
     at_give ∙ (λ i. record (kept_view v) { kin = numbers_credit v.number own v.kin i })

@@ -16,11 +16,12 @@ use crate::versions::Version;
 use std::alloc::{AllocError, Global};
 use std::collections::BTreeMap;
 
-/// Blobs by key, and each shard's versions.
+/// Blobs by key, and each shard's versions: what a store holds, without what it was asked. Calls are answered from it by
+/// the table of docs/DEFINITIONS.md, "Stores".
 #[derive(Drop)]
 pub struct Contents {
-    pub blobs: BTreeMap<PartKey, Bytes>,
-    pub logs: BTreeMap<ShardId, ShardLog>,
+    pub(crate) blobs: BTreeMap<PartKey, Bytes>,
+    pub(crate) logs: BTreeMap<ShardId, ShardLog>,
 }
 
 fn get_blob(blobs: &BTreeMap<PartKey, Bytes>, key: &PartKey) -> Result<Option<Bytes>, AllocError>

@@ -10,6 +10,9 @@ returns-clause-failed g c =
     let closed = c.close.result in
     let history = g.S.Store.history in
     let v = view c.args.pass in
-    let rose = subst (λ s. RoseBy (failed_in (gained (history closed.opened.value) (history closed.store))) (g.S.Store.faults closed.opened.value) (g.S.Store.faults s)) (sym c.into_store.ensures) closed.failed in
-    closed_fails g.S.Store.faults closed.opened.value (history closed.opened.value) (history closed.store) v.start v.gain (g.S.Store.faults c.into_store.result)
-    rose (c.close.ensures.tells ∙ ap (λ o. with_more o v.gain) (sym c.requires.pass.start))
+    let opened = closed.opened.value in
+    let faults = g.S.Store.faults in
+    let rose = subst (λ s. RoseBy (failed_in (gained (history opened) (history closed.store))) (faults opened) (faults s))
+    (sym c.into_store.ensures) closed.failed in
+    let tells = c.close.ensures.tells ∙ ap (λ o. with_more o v.gain) (sym c.requires.pass.start) in
+    closed_fails faults opened (history opened) (history closed.store) v.start v.gain (faults c.into_store.result) rose tells
