@@ -433,6 +433,7 @@ fn full_version(alloc: Global) -> Result<Bytes, Fail> {
     let mut ready = first_version(alloc, SHARD)?;
     let step = join(Kind::Reader, 9);
     for _ in 0..256 {
+        let _ = ready.after.members();
         if let Attempt::Ready(next) = Attempt::of(alloc, &ready.after, &step)? {
             ready = next;
         }
