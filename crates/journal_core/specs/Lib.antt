@@ -1,0 +1,12 @@
+pub mod Disks
+pub mod Calls
+pub mod Crashes
+pub mod Records
+pub mod Frames
+pub mod MemDisks
+pub mod MemTold
+pub mod Opening
+pub mod Images
+pub mod Seen
+pub mod Runs
+pub mod Tallies
