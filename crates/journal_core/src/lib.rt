@@ -24,7 +24,7 @@ pub use journals::Journal;
 pub use load_faults::LoadFault;
 pub use mem_disks::MemDisk;
 pub use opening::{begin, load, repair};
-pub use reading::{Frame, next_frame};
+pub use reading::{Frame, first_number, next_frame};
 pub use records::Record;
 
 #[cfg(test)]
