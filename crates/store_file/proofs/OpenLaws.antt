@@ -19,7 +19,6 @@ pub opened_is : (old mid new : Option DiskHistory) (bytes : List ℕ) (len : ℕ
 opened_is None None new bytes len f all settled finds size small repaired = record {
   stands = λ h is. absurd cc;
   keeps = λ h is. let e : None ≡ Some h = sym repaired ∙ is in absurd cc;
-  twice = finds.twice;
 }
 opened_is None (Some m) new bytes len f all settled finds size small repaired = absurd cc
 opened_is (Some h) None new bytes len f all settled finds size small repaired = let e : None ≡ Some settled.0 = settled.1 in absurd cc
@@ -29,14 +28,13 @@ opened_is (Some h) (Some m) new bytes len f all settled finds size small repaire
     let rests = repaired.2 finds.payloads finds.rest mid_is finds.place (size ∙ ap length finds.whole
     ∙ ap (λ (d : DiskState). length d.bytes) (sym mid_is)) in
     record {
-      stands = λ k is. subst (λ (d : DiskHistory). Stands (stored_of f.start) d.now.bytes) (history_is h k is) (record {
+      stands = λ k is. subst (λ (d : DiskHistory). Stands (stored_of f.contents) d.now.bytes) (history_is h k is) (record {
         payloads = finds.payloads;
         journal = record { gate = f.gate; rest = finds.rest; shut = finds.shut; whole = sym all ∙ finds.whole };
         makes = finds.makes;
       });
-      keeps = λ k is. subst (λ (d : DiskHistory). Keeps (stored_of f.start) f.end d) (history_is repaired.0 k (sym repaired.1 ∙ is))
-          (keeps_of (stored_of f.start) f.end finds.payloads repaired.0 small rests finds.makes);
-      twice = finds.twice;
+      keeps = λ k is. subst (λ (d : DiskHistory). Keeps (stored_of f.contents) f.end d) (history_is repaired.0 k (sym repaired.1 ∙ is))
+          (keeps_of (stored_of f.contents) f.end finds.payloads repaired.0 small rests finds.makes);
     }
 
 -- where the disk is told, these are its bytes

@@ -7,20 +7,19 @@ use Rattle.journal_core.proofs.Payloads.{records-push}
 use Rattle.store_file.specs.Replays.{stored_by, after_record}
 use Rattle.store_file.proofs.Keeping.{after_records-push}
 
--- the records before the rest make this store, found twice
-pub record ReadSoFar (bytes rest : List ℕ) (start current : Stored) : Type 0 where
+-- the records before the rest make this store
+pub record ReadSoFar (bytes rest : List ℕ) (s : Stored) : Type 0 where
   pub payloads : List (List ℕ)
   pub whole : bytes ≡ records payloads ++ rest
   pub some : 0 < length rest
-  pub makes : stored_by payloads ≡ Some start
-  pub twice : current ≡ start
+  pub makes : stored_by payloads ≡ Some s
 
 -- one record more
-pub read_more : (bytes rest after payload next : List ℕ) (start current start2 current2 : Stored) → ReadSoFar bytes rest start current
+pub read_more : (bytes rest after payload next : List ℕ) (s s2 : Stored) → ReadSoFar bytes rest s
     → rest ≡ 1 ∷ after
-    → (after ≡ number_bytes (length payload) ++ (payload ++ next)) × (0 < length next) → after_record start payload ≡ Some start2
-    → current2 ≡ start2 → ReadSoFar bytes next start2 current2
-read_more bytes rest after payload next start current start2 current2 so_far is_open frame good twice =
+    → (after ≡ number_bytes (length payload) ++ (payload ++ next)) × (0 < length next) → after_record s payload ≡ Some s2
+    → ReadSoFar bytes next s2
+read_more bytes rest after payload next s s2 so_far is_open frame good =
     let ps = so_far.payloads in
     let n = number_bytes (length payload) in
     record {
@@ -29,19 +28,16 @@ read_more bytes rest after payload next start current start2 current2 so_far is_
           ∙ ap (λ (l : List ℕ). 1 ∷ l) (frame.0 ∙ sym (append_assoc n payload next)))
           ∙ sym (append_assoc (records ps) (record_bytes payload) next) ∙ ap (λ (l : List ℕ). l ++ next) (sym (records-push ps payload));
       some = frame.1;
-      makes = after_records-push empty_store ps payload start so_far.makes ∙ good;
-      twice = twice;
+      makes = after_records-push empty_store ps payload s so_far.makes ∙ good;
     }
 
 -- nothing was read yet
-pub read_none : (bytes rest : List ℕ) (start current : Stored) → (bytes ≡ magic ++ rest) × (0 < length rest) → start ≡ empty_store
-    → current ≡ empty_store → ReadSoFar bytes rest start current
-read_none bytes rest start current whole is is2 = record {
+pub read_none : (bytes rest : List ℕ) (s : Stored) → (bytes ≡ magic ++ rest) × (0 < length rest) → s ≡ empty_store → ReadSoFar bytes rest s
+read_none bytes rest s whole is = record {
   payloads = [];
   whole = whole.0 ∙ ap (λ (l : List ℕ). l ++ rest) (sym (append-nil magic));
   some = whole.1;
   makes = ap Some (sym is);
-  twice = is2 ∙ sym is;
 }
 
 -- how far that is

@@ -1,5 +1,5 @@
 -- Why a disk isn't opened, by what it holds and by its count of faults.
-use Rattle.std.specs.Prelude.{⊤, ◌≡◌, ℕ, Option}
+use Rattle.std.specs.Prelude.{⊤, ℕ, Option}
 use Rattle.std.specs.Option.{ForSome}
 use Rattle.causes.specs.Causes.{Rose}
 use Rattle.journal_core.specs.Disks.{DiskHistory}
@@ -17,11 +17,10 @@ IsCauseOf o before now faults.NotAStore = ForSome o (λ h. IsNoStore h.now.bytes
 IsCauseOf o before now (faults.Damaged at) = ForSome o (λ h. IsDamagedAt at h.now.bytes)
 IsCauseOf o before now faults.Memory = ⊤
 
--- The bytes that were there stand for the store that was found, twice, and the disk keeps it.
+-- The bytes that were there stand for the store that was found, and the disk keeps it.
 pub record IsOpened (old new : Option DiskHistory) (f : Found) : Type 0 where
-  pub stands : ForSome old (λ h. Stands (stored_of f.start) h.now.bytes)
-  pub keeps : KeepsWhereTold (stored_of f.start) f.end new
-  pub twice : stored_of f.current ≡ stored_of f.start
+  pub stands : ForSome old (λ h. Stands (stored_of f.contents) h.now.bytes)
+  pub keeps : KeepsWhereTold (stored_of f.contents) f.end new
 
 -- the fault isn't of the bytes: the disk failed, or memory was refused
 abbrev pub IsFromOutside : OpenFault → Type 0

@@ -16,7 +16,7 @@ HasEntry client call outcome old new = new ≡ with_entry old (entry_of client c
 module _ {D : Type 0} {G : Ghosts D} where
   -- the store that it was opened with, and the entries since then
   abbrev pub history_of : FileStore D G → History
-  history_of s = record { start = stored_of s.start; trail = s.trail.items }
+  history_of s = record { start = stored_of s.start.value; trail = s.trail.items }
 
   -- it tells them always
   abbrev pub told : FileStore D G → Option History

@@ -37,12 +37,11 @@ IsFaultOf bytes faults.NotAStore = IsNoStore bytes
 IsFaultOf bytes (faults.Damaged at) = IsDamagedAt at bytes
 IsFaultOf bytes faults.Memory = ⊤
 
--- the bytes are a journal whose last gate stands there, and the store that its records make was found twice
+-- the bytes are a journal whose last gate stands there, and its records make the store that was found
 pub record Finds (bytes : List ℕ) (f : Found) : Type 0 where
   pub payloads : List (List ℕ)
   pub rest : List ℕ
   pub whole : bytes ≡ records payloads ++ f.gate ∷ rest
   pub shut : f.gate ≢ 1
   pub place : f.end ≡ length (records payloads)
-  pub makes : stored_by payloads ≡ Some (stored_of f.start)
-  pub twice : stored_of f.current ≡ stored_of f.start
+  pub makes : stored_by payloads ≡ Some (stored_of f.contents)

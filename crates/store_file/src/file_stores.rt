@@ -14,19 +14,20 @@ use crate::taking::added;
 use causes::one_more;
 use journal_core::{Disk, Journal, Record, begin};
 use std::alloc::{AllocError, Global};
+use std::snapshot::Snapshot;
 use store_core::{Call, Contents, Entry, Outcome, Reply, Store};
 
-/// A store whose changes stand in a journal on a disk. It keeps what it began with and what it has been asked.
+/// A store whose changes stand in a journal on a disk, with what it has been asked. What it began with is known to proofs alone.
 #[derive(Drop)]
 pub struct FileStore<D: Disk> {
     alloc: Global,
     journal: Journal<D>,
-    start: Contents,
+    start: Snapshot<Contents>,
     current: Contents,
     trail: Vec<Entry>,
     shut: bool,
     refused: u64,
-    ghost replayed: { shut ≡ false → stored_of current ≡ replay (stored_of start) trail.items },
+    ghost replayed: { shut ≡ false → stored_of current ≡ replay (stored_of start.value) trail.items },
     ghost kept: { ForSome (D.history journal.disk) (λ h. shut ≡ false → Keeps (stored_of current) journal.end h) },
 }
 
@@ -56,10 +57,31 @@ impl<D: Disk> FileStore<D> {
     ghost use Rattle.store_core.specs.Changes.{changes};
     ghost use Rattle.store_core.specs.Histories.{Adds};
     ghost use Rattle.journal_core.specs.Crashes.{LeavesWhereTold};
-    ghost use Rattle.store_file.specs.Replays.{Stands, StandsForEither};
+    ghost use Rattle.store_file.specs.Replays.{Stands, StandsForEither, KeepsWhereTold};
     ghost use Rattle.store_file.specs.Causes.{IsCauseOf, IsFromOutside};
     ghost use Rattle.store_file.specs.FileStores.{history_of, told, HasEntry, store_now, disk_of, disk_faults, file_faults, is_shut};
     ghost use Rattle.store_file.specs.FileStores.{end_of};
+
+    // The store that begins with what its disk keeps. It takes no memory.
+    fn starting(alloc: Global, disk: D, contents: Contents, end: u64) -> FileStore<D>
+        requires { KeepsWhereTold (stored_of contents) end (D.history disk) }
+        ensures start { (history_of result).start ≡ stored_of contents }
+        ensures trail { (history_of result).trail ≡ [] }
+        ensures open { is_shut result ≡ false }
+        ensures disk { disk_of result ≡ D.history disk }
+        ensures faults { disk_faults result ≡ D.faults disk }
+    {
+        let start = Snapshot::of(&contents);
+        FileStore {
+            alloc,
+            journal: Journal { disk, end },
+            start,
+            current: contents,
+            trail: Vec::new(alloc),
+            shut: false,
+            refused: 0,
+        }
+    }
 
     /// An empty store on an empty disk. It takes no memory. Of a crash within it nothing is promised.
     pub fn create(alloc: Global, disk: D) -> Result<FileStore<D>, OpenFail<D>>
@@ -71,15 +93,7 @@ impl<D: Disk> FileStore<D> {
     {
         let mut disk = disk;
         match begin(&mut disk) {
-            Ok(()) => Ok(FileStore {
-                alloc,
-                journal: Journal { disk, end: 8 },
-                start: Contents::new(alloc),
-                current: Contents::new(alloc),
-                trail: Vec::new(alloc),
-                shut: false,
-                refused: 0,
-            }),
+            Ok(()) => Ok(FileStore::starting(alloc, disk, Contents::new(alloc), 8)),
             Err(_) => Err(OpenFail {
                 disk,
                 why: OpenFault::DiskFault,
@@ -102,22 +116,7 @@ impl<D: Disk> FileStore<D> {
     {
         let mut disk = disk;
         match opened(alloc, &mut disk) {
-            Ok(
-                Found {
-                    start,
-                    current,
-                    end,
-                    ..
-                },
-            ) => Ok(FileStore {
-                alloc,
-                journal: Journal { disk, end },
-                start,
-                current,
-                trail: Vec::new(alloc),
-                shut: false,
-                refused: 0,
-            }),
+            Ok(Found { contents, end, .. }) => Ok(FileStore::starting(alloc, disk, contents, end)),
             Err(why) => Err(OpenFail { disk, why }),
         }
     }

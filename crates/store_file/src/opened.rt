@@ -18,7 +18,7 @@ pub(crate) fn opened<D: Disk>(alloc: Global, disk: &mut D) -> Result<Found, Open
     ensures err { IfErr result (λ why. IsCauseOf (D.history disk.old) (D.faults disk.old) (D.faults disk.new) why) }
     // Where the bytes stand for a store, that is the one that is found, unless the disk fails or memory is refused.
     ensures whole { (s : Stored) → ForSome (D.history disk.old) (λ h. Stands s h.now.bytes
-        → MatchResult result (λ found. stored_of found.start ≡ s) IsFromOutside) }
+        → MatchResult result (λ found. stored_of found.contents ≡ s) IsFromOutside) }
     ensures later { D.faults disk.old ≤ D.faults disk.new }
 {
     let bytes = load(alloc, disk)?;

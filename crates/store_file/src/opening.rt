@@ -31,26 +31,18 @@ fn after_letters(bytes: &[u8]) -> Option<&[u8]>
     Some(rest)
 }
 
-// Takes a record into both stores; whether it is a change there.
-fn take_record(
-    alloc: Global,
-    start: &mut Contents,
-    current: &mut Contents,
-    payload: &[u8],
-) -> Result<bool, AllocError>
-    requires { stored_of current.old ≡ stored_of start.old }
-    ensures good { IfOk result (λ good. good ≡ true → after_record (stored_of start.old) payload.now ≡ Some (stored_of start.new)) }
-    ensures twice { IfOk result (λ good. good ≡ true → stored_of current.new ≡ stored_of start.new) }
-    ensures bad { IfOk result (λ good. good ≡ false → after_record (stored_of start.old) payload.now ≡ None) }
+// Takes a record into the store; whether it is a change there.
+fn take_record(alloc: Global, contents: &mut Contents, payload: &[u8]) -> Result<bool, AllocError>
+    ensures good { IfOk result (λ good. good ≡ true → after_record (stored_of contents.old) payload.now ≡ Some (stored_of contents.new)) }
+    ensures bad { IfOk result (λ good. good ≡ false → after_record (stored_of contents.old) payload.now ≡ None) }
 {
     let Some(call) = read_call(alloc, payload)? else {
         return Ok(false);
     };
-    if !start.changes(&call) {
+    if !contents.changes(&call) {
         return Ok(false);
     }
-    let _ = start.apply(alloc, &call)?;
-    let _ = current.apply(alloc, &call)?;
+    let _ = contents.apply(alloc, &call)?;
     Ok(true)
 }
 
@@ -88,8 +80,7 @@ pub(crate) fn found_in(alloc: Global, bytes: &[u8]) -> Result<Found, OpenFault>
     let Some(first) = after_letters(bytes) else {
         return Err(OpenFault::NotAStore);
     };
-    let mut start = Contents::new(alloc);
-    let mut current = Contents::new(alloc);
+    let mut contents = Contents::new(alloc);
     let mut rest = first;
     while let Some(after) = behind_open_gate(rest) {
         let at = place(bytes.len(), rest);
@@ -100,7 +91,7 @@ pub(crate) fn found_in(alloc: Global, bytes: &[u8]) -> Result<Found, OpenFault>
         else {
             return Err(OpenFault::Damaged { at });
         };
-        if !take_record(alloc, &mut start, &mut current, payload)? {
+        if !take_record(alloc, &mut contents, payload)? {
             return Err(OpenFault::Damaged { at });
         }
         rest = next;
@@ -108,8 +99,7 @@ pub(crate) fn found_in(alloc: Global, bytes: &[u8]) -> Result<Found, OpenFault>
     let end = place(bytes.len(), rest);
     let gate = first_byte(rest);
     Ok(Found {
-        start,
-        current,
+        contents,
         end,
         gate,
     })

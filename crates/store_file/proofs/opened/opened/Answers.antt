@@ -29,7 +29,7 @@ returns-clause-whole g c s h is stands =
     let bytes : c.deref.result.now ≡ h.now.bytes = c.deref.ensures.value
     ∙ all_is (g.D.Disk.history c.args.disk.now) c.in_ok-bytes.bytes.items h c.in_ok-bytes.ensures.bytes is in
     let finds = c.in-Ok.ensures.found in
-    one_store c.deref.result.now (stored_of f.start) s c.found_in.ensures.few
+    one_store c.deref.result.now (stored_of f.contents) s c.found_in.ensures.few
     (record {
       payloads = finds.payloads;
       journal = record { gate = f.gate; rest = finds.rest; shut = finds.shut; whole = finds.whole };
