@@ -73,3 +73,5 @@ pub mod WorkedAnswers
 pub mod Gaining
 pub mod Committed
 pub mod Answering
+pub mod SameCalls
+pub mod TakenLaws

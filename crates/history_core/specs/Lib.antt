@@ -22,3 +22,4 @@ pub mod Costs
 pub mod AnswerLaws
 pub mod WorkedAnswers
 pub mod StretchLaws
+pub mod TakenAfterAll

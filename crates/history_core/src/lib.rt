@@ -10,6 +10,7 @@ pub mod member_laws;
 pub mod part_laws;
 mod read_answers;
 pub mod stretch_laws;
+pub mod taken_laws;
 mod walks;
 pub mod worked;
 pub mod worked_answers;
