@@ -103,6 +103,16 @@ module _ (s : Stored) (c : Call) (p : List ℕ) (end : ℕ) (spelled : call_in p
       } in
       subst (λ (d : DiskHistory). Keeps (after_call s c) end2 d) same keeps_now
 
+-- the bytes of a disk that is at rest stand for the store
+pub keeps_stands : (s : Stored) (end : ℕ) (h : DiskHistory) → Keeps s end h → Stands s h.now.bytes
+keeps_stands s end h keeps =
+    let ps = payloads_of h.now.bytes in
+    record {
+      payloads = ps;
+      journal = subst (IsJournal ps) (sym (keeps.rests.bytes ∙ sym (append-nil (at_rest ps)))) (at_rest_is ps []);
+      makes = keeps.makes;
+    }
+
 -- a disk that is at rest leaves the store
 pub rests_safely : (s : Stored) (end : ℕ) (h : DiskHistory) → Keeps s end h → LeavesNow (Stands s) h.now
 rests_safely s end h keeps c left = record {

@@ -56,7 +56,7 @@ impl<D: Disk> FileStore<D> {
     ghost use Rattle.store_file.specs.Payloads.{payload_of};
     ghost use Rattle.store_core.specs.Changes.{changes};
     ghost use Rattle.store_core.specs.Histories.{Adds};
-    ghost use Rattle.journal_core.specs.Crashes.{LeavesWhereTold};
+    ghost use Rattle.journal_core.specs.Crashes.{LeavesNow, LeavesWhereTold};
     ghost use Rattle.store_file.specs.Replays.{Stands, StandsForEither, KeepsWhereTold};
     ghost use Rattle.store_file.specs.Causes.{IsCauseOf, IsFromOutside};
     ghost use Rattle.store_file.specs.FileStores.{history_of, told, HasEntry, store_now, disk_of, disk_faults, file_faults, is_shut};
@@ -128,11 +128,13 @@ impl<D: Disk> FileStore<D> {
         self.shut
     }
 
-    /// The disk. While the store isn't shut, opening it finds the store as it is.
+    /// The disk. While the store isn't shut, its bytes, and those that a crash leaves of it, stand for the store as it is.
     pub fn into_disk(self) -> D
         ensures history { D.history result ≡ disk_of self }
         ensures faults { D.faults result ≡ disk_faults self }
         ensures kept { is_shut self ≡ false → ForSome (D.history result) (λ h. Keeps (store_now self) (end_of self) h) }
+        ensures stands { is_shut self ≡ false → ForSome (D.history result) (λ h. Stands (store_now self) h.now.bytes) }
+        ensures crash { is_shut self ≡ false → ForSome (D.history result) (λ h. LeavesNow (Stands (store_now self)) h.now) }
     {
         let FileStore {
             journal: Journal { disk, .. },
