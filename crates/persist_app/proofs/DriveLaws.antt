@@ -1,127 +1,85 @@
--- The calls of a command over a store that nobody else calls. Entries go newest first.
-use Rattle.std.proofs.Common.{◌≡◌, ℕ, suc, ◌+◌, ◌⊎◌, inl, inr, Option, List, [], ◌∷◌, ◌++◌, length, refl, sym, ap, subst, ◌∙◌, append_assoc, arith}
-use Rattle.std.proofs.lemmas.Bool.{eq-eqb}
+-- The calls of a command of a run, which nobody else calls between. Entries go newest first.
+use Rattle.std.proofs.Common.{◌≡◌, ℕ, suc, ◌+◌, inl, inr, List, [], ◌∷◌, ◌++◌, length, refl, sym, ap, subst, ◌∙◌, append_assoc, arith}
+use Rattle.std.specs.Prelude.{Ok, Err, Option, Result}
+use Rattle.std.specs.List.{AllByRecursion}
 use Rattle.update_core.specs.declared.updates.Update.{Update}
-use Rattle.store_core.specs.declared.calls.Call.{Call}
-use Rattle.store_core.specs.declared.versions.Version.{Version}
-use Rattle.store_core.specs.declared.replies.Reply.{Reply}
-use Rattle.store_core.specs.declared.replies.Reply.TheVariants as replies
-use Rattle.store_core.specs.declared.outcomes.Outcome.{Outcome}
-use Rattle.store_core.specs.declared.outcomes.Outcome.TheVariants.{Took, FailedTook, FailedLost}
+use Rattle.store_core.specs.declared.shards.ShardId.{ShardId}
 use Rattle.store_core.specs.declared.entries.Entry.{Entry}
 use Rattle.store_core.specs.Stores.{Stored}
-use Rattle.store_core.specs.Histories.{History, Adds, reply, reply_by}
-use Rattle.store_core.specs.Newest.{mine_back, replay_back}
+use Rattle.store_core.specs.Histories.{History, reply}
+use Rattle.store_core.specs.Newest.{replay_back}
 use Rattle.state_core.specs.States.{ShardState}
-use Rattle.history_core.specs.Discipline.{Allows, LawfulBack}
+use Rattle.state_core.specs.VersionReading.{most}
+use Rattle.history_core.specs.Discipline.{LawfulBack}
 use Rattle.history_core.specs.Laws.{LastIs}
-use Rattle.history_core.specs.Legal.{AtLast}
-use Rattle.history_core.specs.Placing.{placed, places, AtLastScan, IsAnsweredScan}
-use Rattle.history_core.specs.Stands.{StandsFor}
-use Rattle.load_core.specs.Effects.{CommitsFirst, CommitsNone, IsShown}
-use Rattle.load_core.specs.Fronts.{Backwards, WhereLawful}
-use Rattle.persist_app.specs.Drives.{Going, Scanned}
-use Rattle.persist_app.specs.Goings.{Goes, own_shard}
-use Rattle.persist_app.specs.Sessions.{QuietSince}
-use Rattle.persist_app.proofs.GoingLaws.{Between, adds_go}
+use Rattle.history_core.specs.Stands.{StandsFor, accepted}
+use Rattle.history_core.proofs.Entries.{lawful_older}
+use Rattle.machine_core.specs.Machines.{Words}
+use Rattle.driving.specs.declared.drive_faults.DriveFault.{DriveFault}
+use Rattle.driving.specs.declared.drive_faults.DriveFault.TheVariants as drives
+use Rattle.driving.specs.Drives.{Answered, BeginAtMost, Drove, Going, MayBegin, Scanned}
+use Rattle.driving.specs.Goings.{Goes}
+use Rattle.driving.proofs.GoingLaws.{Between}
+use Rattle.persist_app.specs.declared.session_faults.SessionFault.{SessionFault}
+use Rattle.persist_app.specs.Drives.{Driven, Failed}
+use Rattle.persist_app.specs.PlainRuns.{View}
+use Rattle.persist_app.specs.RunFaults.{drive_fault}
+use Rattle.persist_app.specs.Sessions.{QuietSince, StartsAt, own_shard}
 use Rattle.persist_app.proofs.Quietly.{quiet_none, quiet_start, quiet_stays}
 use Rattle.persist_app.proofs.Stepped.{first_never}
 use Rattle.persist_app.proofs.Views.{more_keeps, more_starts}
 
--- one call of the client has come, with E of it and its reply
-pub record OneCall (client : ℕ) (E : Call → Reply → Type 0) (start : Stored) (es now : List Entry) : Type 0 where
-  pub entry : Entry
-  pub own : entry.client ≡ client
-  pub split : now ≡ entry ∷ es
-  pub effect : E entry.call (reply (replay_back start es) entry)
+-- ---- entries that begin the shard at most
 
--- of two things that hold of it the first
-pub one_first : (client : ℕ) (E F : Call → Reply → Type 0) (start : Stored) (es now : List Entry) → OneCall client (λ c r. E c r × F c r) start es now → OneCall client E start es now
-one_first client E F start es now k = record { entry = k.entry; own = k.own; split = k.split; effect = k.effect.0 }
+-- what such entries of one client leave as it was
+pub record Unmoved (client : ℕ) (list : List Update) (start : Stored) (es now : List Entry) (calls : ℕ) : Type 0 where
+  pub starts : (view : View) → StartsAt own_shard list start es view → StartsAt own_shard list start now view
+  pub accepts : accepted own_shard list start now ≡ accepted own_shard list start es
+  pub quiet : (n : ℕ) (s : ShardState) → LastIs (replay_back start es) own_shard n s → QuietSince own_shard client start es now calls
 
-pub called : (client : ℕ) (a b : Option History) (call : Call) (r : Reply) (E : Call → Reply → Type 0) → Adds a b client call r →
-    WhereLawful own_shard a (Backwards (λ start es list. Allows (mine_back start es client) call)) → E call r →
-    Goes a b (λ list start es now. OneCall client E start es now)
-called client a b call r E adds allowed effect =
-    adds_go client a b call r (λ list start es now. OneCall client E start es now) adds allowed (λ list start es e own call_is reply_is. record {
-      entry = e;
-      own = own;
-      split = refl;
-      effect = subst (λ (c : Call). E c (reply (replay_back start es) e)) (sym call_is) (subst (E call) reply_is effect);
-    })
+module _ (client : ℕ) (list : List Update) (start : Stored) (st : StandsFor start own_shard list) (es : List Entry) where
+  next_unmoved : (mid : List Entry) (e : Entry) (calls : ℕ) → LawfulBack start (e ∷ mid) → e.client ≡ client →
+      MayBegin own_shard e.call (reply (replay_back start mid) e) → Unmoved client list start es mid calls → Unmoved client list start es (e ∷ mid) (calls + 1)
+  next_unmoved mid e calls l own effect s = record {
+    starts = λ view at. more_starts own_shard list start st e mid l view (s.starts view at) effect;
+    accepts = more_keeps own_shard list start st e mid l effect ∙ s.accepts;
+    quiet = λ n t last. still n t last effect;
+  }
+    where
+      still : (n : ℕ) (t : ShardState) → LastIs (replay_back start es) own_shard n t → MayBegin own_shard e.call (reply (replay_back start mid) e) →
+          QuietSince own_shard client start es (e ∷ mid) (calls + 1)
+      still n t last (inl none) = quiet_none own_shard start client es mid calls e (s.quiet n t last) own none
+      still n t last (inr first) =
+          absurd (first_never own_shard list start st e mid l n t
+          ((quiet_stays own_shard list start client es mid calls (s.quiet n t last)).last n t last) first)
 
--- ---- while a command goes on
+  all_unmoved : (more : List Entry) → LawfulBack start (more ++ es) → AllByRecursion (λ e. e.client ≡ client) more → BeginAtMost own_shard start more es →
+      Unmoved client list start es (more ++ es) (length more)
+  all_unmoved [] l own begin = record { starts = λ view at. at; accepts = refl; quiet = λ n t last. quiet_start own_shard client start es }
+  all_unmoved (e ∷ more) l own begin =
+      let one : length more + 1 ≡ suc (length more) = omega arith in
+      subst (λ (n : ℕ). Unmoved client list start es (e ∷ (more ++ es)) n) one
+      (next_unmoved (more ++ es) e (length more) l own.0 begin.0 (all_unmoved more (lawful_older start e (more ++ es) l) own.1 begin.1))
 
-pub going_starts : (client : ℕ) (list : List Update) (start : Stored) (es : List Entry) → Going client list start es es 0
-going_starts client list start es = record {
-  more = [];
-  split = refl;
-  of_client = tt;
-  as_many = refl;
-  starts = λ view at. at;
-  accepts = refl;
-  quiet = λ n s last. quiet_start own_shard client start es;
-}
+-- the last entry of a command, over its place
+pub lawful_last : (list : List Update) (start : Stored) (es now before : List Entry) (e : Entry) → Between own_shard list start es now →
+    now ≡ e ∷ before → LawfulBack start (e ∷ before)
+lawful_last list start es now before e b split = subst (LawfulBack start) split b.lawful_now
 
--- while it goes on, a call commits at most the shard's first version
-abbrev pub MayBegin : Call → Reply → Type 0
-MayBegin call r = CommitsNone r ⊎ CommitsFirst own_shard call r
+-- what the entries of a command before its last one leave as it was
+pub unmoved : (client : ℕ) (list : List Update) (start : Stored) (es now before : List Entry) (e : Entry) (calls : ℕ) →
+    Between own_shard list start es now → now ≡ e ∷ before → Going own_shard client start es before calls → Unmoved client list start es before calls
+unmoved client list start es now before e calls b split g =
+    let older = lawful_older start e before (lawful_last list start es now before e b split) in
+    subst (λ (fs : List Entry). Unmoved client list start es fs calls) (sym g.split)
+    (subst (λ (n : ℕ). Unmoved client list start es (g.more ++ es) n) g.as_many
+    (all_unmoved client list start b.stands es g.more (subst (LawfulBack start) g.split older) g.of_client g.begin))
 
-next_going : (client : ℕ) (list : List Update) (start : Stored) (es mid : List Entry) (e : Entry) (calls : ℕ) → StandsFor start own_shard list → LawfulBack start (e ∷ mid) →
-    Going client list start es mid calls → e.client ≡ client → MayBegin e.call (reply (replay_back start mid) e) → Going client list start es (e ∷ mid) (calls + 1)
-next_going client list start es mid e calls st l g own effect = record {
-  more = e ∷ g.more;
-  split = ap (λ (fs : List Entry). e ∷ fs) g.split;
-  of_client = (own, g.of_client);
-  as_many = (let many : length g.more ≡ calls = g.as_many in omega arith);
-  starts = λ view at. more_starts own_shard list start st e mid l view (g.starts view at) effect;
-  accepts = more_keeps own_shard list start st e mid l effect ∙ g.accepts;
-  quiet = λ n s last. still n s last effect;
-}
-  where
-    still : (n : ℕ) (s : ShardState) → LastIs (replay_back start es) own_shard n s → MayBegin e.call (reply (replay_back start mid) e) → QuietSince own_shard client start es (e ∷ mid) (calls + 1)
-    still n s last (inl none) = quiet_none own_shard start client es mid calls e (g.quiet n s last) own none
-    still n s last (inr first) =
-        absurd (first_never own_shard list start st e mid l n s ((quiet_stays own_shard list start client es mid calls (g.quiet n s last)).last n s last) first)
-
-pub going_on : (client : ℕ) (list : List Update) (start : Stored) (es mid now : List Entry) (calls : ℕ) → Between list start mid now →
-    Going client list start es mid calls → OneCall client MayBegin start mid now → Going client list start es now (calls + 1)
-going_on client list start es mid now calls b g c =
-    subst (λ (fs : List Entry). Going client list start es fs (calls + 1)) (sym c.split)
-    (next_going client list start es mid c.entry calls b.stands (subst (LawfulBack start) c.split b.lawful_now) g c.own c.effect)
-
--- ---- the last Scan of a command
-
-shown_took : (s : Stored) (call : Call) (o : Outcome) (vs : List Version) → reply_by s call o ≡ replies.Versions vs → o ≡ Took
-shown_took s call Took vs is = refl
-shown_took s call FailedTook vs is = absurd (let bad : replies.Failed ≡ replies.Versions vs = is in cc)
-shown_took s call FailedLost vs is = absurd (let bad : replies.Failed ≡ replies.Versions vs = is in cc)
-
--- a Scan whose reply is its versions was answered
-pub shown_scan : (s : Stored) (e : Entry) (es : List Entry) → IsShown own_shard e.call (reply s e) → IsAnsweredScan own_shard (placed e es)
-shown_scan s e es (scan, (vs, is)) = (scan, shown_took s e.call e.outcome vs is)
-
--- where it is the last entry, that one shows what holds there
-pub scanned_last : (client : ℕ) (list : List Update) (start : Stored) (P : ℕ → ShardState → Type 0) (es before : List Entry) (e : Entry) (calls : ℕ) →
-    Going client list start es before calls → e.client ≡ client → IsAnsweredScan own_shard (placed e before) →
-    AtLastScan own_shard (AtLast start own_shard P) (places client (calls + 1) (e ∷ before)) → Scanned P start es (e ∷ before)
-scanned_last client list start P es before e calls g own answered h =
-    let one : calls + 1 ≡ suc calls = omega arith in
-    let there = subst (λ (n : ℕ). AtLastScan own_shard (AtLast start own_shard P) (places client n (e ∷ before))) one h in
-    record {
-      place = placed e before;
-      more = g.more;
-      split = refl;
-      since = g.split;
-      answered = answered;
-      last = elim (rw (eq-eqb e.client client own) at there) [
-        | inl k ↦ k.1
-        | inr k ↦ absurd (k.0 answered)
-      ];
-    }
+-- ---- faults
 
 -- a Scan since later entries is one since earlier ones
-pub scanned_before : (P : ℕ → ShardState → Type 0) (list : List Update) (start : Stored) (es mid now : List Entry) → Between list start es mid → Scanned P start mid now → Scanned P start es now
+pub scanned_before : (P : ℕ → ShardState → Type 0) (list : List Update) (start : Stored) (es mid now : List Entry) →
+    Between own_shard list start es mid → Scanned own_shard P start mid now → Scanned own_shard P start es now
 scanned_before P list start es mid now b s = record {
   place = s.place;
   more = s.more ++ b.more;
@@ -130,3 +88,23 @@ scanned_before P list start es mid now b s = record {
   answered = s.answered;
   last = s.last;
 }
+
+-- ---- what a drive says, as a session says it
+
+module _ {M A : Type 0} (W : Words M A) (client : ℕ) (k : W.Kept) (own : W.shard k ≡ own_shard) (a d : Option History) where
+  pub drive_answers : (answer : A) → Goes (W.shard k) a d (Drove W client k (Ok answer)) → Goes own_shard a d (Driven W client k (Ok answer))
+  drive_answers answer went = subst (λ (s : ShardId). Goes s a d (Drove W client k (Ok answer))) own went
+
+  -- a fault, by its own name
+  there : (fault : DriveFault) → Goes (W.shard k) a d (Drove W client k (Err fault)) →
+      Goes own_shard a d (λ list start es now. Failed (drive_fault fault) start es now)
+  there drives.Memory went = subst (λ (s : ShardId). Goes s a d (Drove W client k (Err drives.Memory))) own went
+  there drives.Store went = subst (λ (s : ShardId). Goes s a d (Drove W client k (Err drives.Store))) own went
+  there drives.Damaged went = subst (λ (s : ShardId). Goes s a d (Drove W client k (Err drives.Damaged))) own went
+  there drives.Spent went =
+      subst (λ (s : ShardId). Goes s a d (λ list start es now. Scanned s (λ n t. n ≡ most) start es now)) own went
+
+  pub drive_fails : (fault : DriveFault) (e : SessionFault) → e ≡ drive_fault fault → Goes (W.shard k) a d (Drove W client k (Err fault)) →
+      Goes own_shard a d (Driven W client k (Err e))
+  drive_fails fault e is went =
+      subst (λ (f : SessionFault). Goes own_shard a d (λ list start es now. Failed f start es now)) (sym is) (there fault went)

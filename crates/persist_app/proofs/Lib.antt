@@ -3,11 +3,7 @@ pub mod Quietly
 pub mod Stepped
 pub mod Views
 pub mod Refused
-pub mod GoingLaws
 pub mod DriveLaws
-pub mod Unmixed
-pub mod WriteDrives
-pub mod ReadDrives
 pub mod SessionLaws
 pub mod ReplyLaws
 pub mod RunLaws

@@ -20,12 +20,13 @@ use Rattle.persist_app.specs.declared.sessions.Session.{Session}
 use Rattle.persist_app.specs.Answering.{AnswersLines, Closed, Executes, FailedRun, Opens, Replies, number_of}
 use Rattle.persist_app.specs.Drives.{Failed}
 use Rattle.persist_app.specs.Endings.{StaysLawful}
-use Rattle.persist_app.specs.Goings.{Goes, own_shard}
+use Rattle.driving.specs.Goings.{Goes}
+use Rattle.persist_app.specs.Sessions.{own_shard}
 use Rattle.persist_app.specs.PlainRuns.{View, plain_end, plain_run, reply_to, view_after}
 use Rattle.persist_app.specs.RunFaults.{fault_of}
 use Rattle.persist_app.specs.Sessions.{StartsAt, ViewAt}
 use Rattle.persist_app.proofs.DriveLaws.{scanned_before}
-use Rattle.persist_app.proofs.GoingLaws.{Between, going_so, more_going, no_going}
+use Rattle.driving.proofs.GoingLaws.{Between, going_so, more_going, no_going}
 use Rattle.persist_app.proofs.Views.{accepted_stands, starts_somehow, view_accepted}
 
 -- the sink has gained the run's text but for that of the commands that are left, and these end with the run's view
@@ -60,31 +61,31 @@ Comes reader taken taken_now all rest list start es now =
     (view : View) → ViewAt own_shard list start es reader view → (next : View) × ViewAt own_shard list start now reader next × RunSoFar taken taken_now all view next rest
 
 abbrev pub RunOver : ℕ → Option History → Option History → Option (List ℕ) → Option (List ℕ) → List FeedLine → List FeedLine → Type 0
-RunOver reader a b taken taken_now all rest = Goes a b (Comes reader taken taken_now all rest)
+RunOver reader a b taken taken_now all rest = Goes own_shard a b (Comes reader taken taken_now all rest)
 
 pub run_over_starts : (reader : ℕ) (a : Option History) (taken : Option (List ℕ)) (all : List FeedLine) → RunOver reader a a taken taken all all
-run_over_starts reader a taken all = no_going a (Comes reader taken taken all all) (λ list start es view v. (view, v, run_starts taken all view))
+run_over_starts reader a taken all = no_going own_shard a (Comes reader taken taken all all) (λ list start es view v. (view, v, run_starts taken all view))
 
 pub run_over_goes_on : (reader : ℕ) (a b d : Option History) (taken before now : Option (List ℕ)) (all had rest : List FeedLine) (line : FeedLine) (reply : RunReply) (text : List ℕ) → had ≡ line ∷ rest →
-    RunOver reader a b taken before all had → Goes b d (Replies reader (λ view. reply_to view line) (λ view. view_after view line) (Ok reply)) → text ≡ reply_text reply → Gains before now text →
+    RunOver reader a b taken before all had → Goes own_shard b d (Replies reader (λ view. reply_to view line) (λ view. view_after view line) (Ok reply)) → text ≡ reply_text reply → Gains before now text →
     RunOver reader a d taken now all rest
 run_over_goes_on reader a b d taken before now all had rest line reply text split so_far told is more =
-    more_going a b d (Comes reader taken before all had) (Replies reader (λ view. reply_to view line) (λ view. view_after view line) (Ok reply)) (Comes reader taken now all rest) so_far told
+    more_going own_shard a b d (Comes reader taken before all had) (Replies reader (λ view. reply_to view line) (λ view. view_after view line) (Ok reply)) (Comes reader taken now all rest) so_far told
     (λ list start es mid fs b1 b2 come replied view v.
     let (next, at, so) = come view v in
     let (same, after) = replied next at in
     let here : RunSoFar taken before all view next (line ∷ rest) = subst (RunSoFar taken before all view next) split so in
     (view_after next line, after, run_goes_on taken before now all view next line rest text here (is ∙ ap reply_text same) more))
 
-pub run_over_ends : (reader : ℕ) (a b : Option History) (taken now : Option (List ℕ)) (all rest : List FeedLine) → rest ≡ [] → RunOver reader a b taken now all rest → Goes a b (AnswersLines reader all taken now (Ok tt))
+pub run_over_ends : (reader : ℕ) (a b : Option History) (taken now : Option (List ℕ)) (all rest : List FeedLine) → rest ≡ [] → RunOver reader a b taken now all rest → Goes own_shard a b (AnswersLines reader all taken now (Ok tt))
 run_over_ends reader a b taken now all rest none so_far =
-    going_so a b (Comes reader taken now all rest) (AnswersLines reader all taken now (Ok tt)) so_far (λ list start es fs bt come view v.
+    going_so own_shard a b (Comes reader taken now all rest) (AnswersLines reader all taken now (Ok tt)) so_far (λ list start es fs bt come view v.
     let (next, at, so) = come view v in
     let (gained, end) = run_ends taken now all view next (subst (RunSoFar taken now all view next) none so) in
     (gained, subst (λ (w : View). ViewAt own_shard list start fs reader w) (sym end) at))
 
 -- a session's fault is one of the run
-failed_run : (fault : SessionFault) (list : List Update) (start : Stored) (es mid now : List Entry) → Between list start es mid → Failed fault start mid now → FailedRun (fault_of fault) start es now
+failed_run : (fault : SessionFault) (list : List Update) (start : Stored) (es mid now : List Entry) → Between own_shard list start es mid → Failed fault start mid now → FailedRun (fault_of fault) start es now
 failed_run faults.Memory list start es mid now b h = tt
 failed_run faults.Store list start es mid now b h = tt
 failed_run faults.Damaged list start es mid now b h = absurd h
@@ -93,40 +94,40 @@ failed_run faults.Spent list start es mid now b h = scanned_before (λ n s. n �
 
 -- a command that gave no reply
 pub run_over_fails : (reader : ℕ) (a b d : Option History) (taken before now : Option (List ℕ)) (all had : List FeedLine) (line : FeedLine) (fault : SessionFault) → RunOver reader a b taken before all had →
-    Goes b d (Replies reader (λ view. reply_to view line) (λ view. view_after view line) (Err fault)) → Goes a d (AnswersLines reader all taken now (Err (fault_of fault)))
+    Goes own_shard b d (Replies reader (λ view. reply_to view line) (λ view. view_after view line) (Err fault)) → Goes own_shard a d (AnswersLines reader all taken now (Err (fault_of fault)))
 run_over_fails reader a b d taken before now all had line faults.Damaged so_far told =
-    more_going a b d (Comes reader taken before all had) (Replies reader (λ view. reply_to view line) (λ view. view_after view line) (Err faults.Damaged)) (AnswersLines reader all taken now (Err runs.Damaged)) so_far told
+    more_going own_shard a b d (Comes reader taken before all had) (Replies reader (λ view. reply_to view line) (λ view. view_after view line) (Err faults.Damaged)) (AnswersLines reader all taken now (Err runs.Damaged)) so_far told
     (λ list start es mid fs b1 b2 come replied view v. let (next, at, so) = come view v in replied next at)
 run_over_fails reader a b d taken before now all had line faults.Memory so_far told =
-    more_going a b d (Comes reader taken before all had) (Replies reader (λ view. reply_to view line) (λ view. view_after view line) (Err faults.Memory)) (AnswersLines reader all taken now (Err runs.Memory)) so_far told
+    more_going own_shard a b d (Comes reader taken before all had) (Replies reader (λ view. reply_to view line) (λ view. view_after view line) (Err faults.Memory)) (AnswersLines reader all taken now (Err runs.Memory)) so_far told
     (λ list start es mid fs b1 b2 come h. failed_run faults.Memory list start es mid fs b1 h)
 run_over_fails reader a b d taken before now all had line faults.Store so_far told =
-    more_going a b d (Comes reader taken before all had) (Replies reader (λ view. reply_to view line) (λ view. view_after view line) (Err faults.Store)) (AnswersLines reader all taken now (Err runs.Store)) so_far told
+    more_going own_shard a b d (Comes reader taken before all had) (Replies reader (λ view. reply_to view line) (λ view. view_after view line) (Err faults.Store)) (AnswersLines reader all taken now (Err runs.Store)) so_far told
     (λ list start es mid fs b1 b2 come h. failed_run faults.Store list start es mid fs b1 h)
 run_over_fails reader a b d taken before now all had line faults.MembersFull so_far told =
-    more_going a b d (Comes reader taken before all had) (Replies reader (λ view. reply_to view line) (λ view. view_after view line) (Err faults.MembersFull)) (AnswersLines reader all taken now (Err runs.MembersFull)) so_far told
+    more_going own_shard a b d (Comes reader taken before all had) (Replies reader (λ view. reply_to view line) (λ view. view_after view line) (Err faults.MembersFull)) (AnswersLines reader all taken now (Err runs.MembersFull)) so_far told
     (λ list start es mid fs b1 b2 come h. failed_run faults.MembersFull list start es mid fs b1 h)
 run_over_fails reader a b d taken before now all had line faults.Spent so_far told =
-    more_going a b d (Comes reader taken before all had) (Replies reader (λ view. reply_to view line) (λ view. view_after view line) (Err faults.Spent)) (AnswersLines reader all taken now (Err runs.Spent)) so_far told
+    more_going own_shard a b d (Comes reader taken before all had) (Replies reader (λ view. reply_to view line) (λ view. view_after view line) (Err faults.Spent)) (AnswersLines reader all taken now (Err runs.Spent)) so_far told
     (λ list start es mid fs b1 b2 come h. failed_run faults.Spent list start es mid fs b1 h)
 
 -- memory or the sink failed after a reply
 pub run_over_stops : (reader : ℕ) (a b d : Option History) (taken before now : Option (List ℕ)) (all had : List FeedLine) (how : List Update → Stored → List Entry → List Entry → Type 0) (fault : RunFault) →
-    ((list : List Update) (start : Stored) (es fs : List Entry) → AnswersLines reader all taken now (Err fault) list start es fs) → RunOver reader a b taken before all had → Goes b d how → Goes a d (AnswersLines reader all taken now (Err fault))
+    ((list : List Update) (start : Stored) (es fs : List Entry) → AnswersLines reader all taken now (Err fault) list start es fs) → RunOver reader a b taken before all had → Goes own_shard b d how → Goes own_shard a d (AnswersLines reader all taken now (Err fault))
 run_over_stops reader a b d taken before now all had how fault any so_far told =
-    more_going a b d (Comes reader taken before all had) how (AnswersLines reader all taken now (Err fault)) so_far told (λ list start es mid fs b1 b2 come h. any list start es fs)
+    more_going own_shard a b d (Comes reader taken before all had) how (AnswersLines reader all taken now (Err fault)) so_far told (λ list start es mid fs b1 b2 come h. any list start es fs)
 
 -- ---- a run, from its open to its close
 
-pub open_fails : (a b : Option History) (all : List FeedLine) (taken now : Option (List ℕ)) (fault : SessionFault) → Goes a b (λ list start es fs. Failed fault start es fs) → Goes a b (Executes all taken now (Err (fault_of fault)))
+pub open_fails : (a b : Option History) (all : List FeedLine) (taken now : Option (List ℕ)) (fault : SessionFault) → Goes own_shard a b (λ list start es fs. Failed fault start es fs) → Goes own_shard a b (Executes all taken now (Err (fault_of fault)))
 open_fails a b all taken now fault went =
-    going_so a b (λ list start es fs. Failed fault start es fs) (Executes all taken now (Err (fault_of fault))) went (λ list start es fs bt h. failed_run fault list start es es fs (itself list start es fs bt) h)
+    going_so own_shard a b (λ list start es fs. Failed fault start es fs) (Executes all taken now (Err (fault_of fault))) went (λ list start es fs bt h. failed_run fault list start es es fs (itself list start es fs bt) h)
   where
-    itself : (list : List Update) (start : Stored) (es fs : List Entry) → Between list start es fs → Between list start es es
+    itself : (list : List Update) (start : Stored) (es fs : List Entry) → Between own_shard list start es fs → Between own_shard list start es es
     itself list start es fs bt = record { stands = bt.stands; lawful = bt.lawful; lawful_now = bt.lawful; more = []; split = refl }
 
 -- a run that failed within later entries has failed
-run_later : (fault : RunFault) (list : List Update) (start : Stored) (es mid now : List Entry) → Between list start es mid → FailedRun fault start mid now → FailedRun fault start es now
+run_later : (fault : RunFault) (list : List Update) (start : Stored) (es mid now : List Entry) → Between own_shard list start es mid → FailedRun fault start mid now → FailedRun fault start es now
 run_later runs.Memory list start es mid now b h = tt
 run_later runs.Sink list start es mid now b h = tt
 run_later runs.Store list start es mid now b h = tt
@@ -135,47 +136,47 @@ run_later runs.MembersFull list start es mid now b h = scanned_before (λ n s. l
 run_later runs.Spent list start es mid now b h = scanned_before (λ n s. n ≡ most) list start es mid now b h
 
 -- the commands failed
-pub lines_fail : (a b d : Option History) (s : Session) (all : List FeedLine) (taken now : Option (List ℕ)) (fault : RunFault) → Goes a b (Opens (Ok s)) → Goes b d (AnswersLines (number_of s.reader) all taken now (Err fault)) →
-    Goes a d (Executes all taken now (Err fault))
+pub lines_fail : (a b d : Option History) (s : Session) (all : List FeedLine) (taken now : Option (List ℕ)) (fault : RunFault) → Goes own_shard a b (Opens (Ok s)) → Goes own_shard b d (AnswersLines (number_of s.reader) all taken now (Err fault)) →
+    Goes own_shard a d (Executes all taken now (Err fault))
 lines_fail a b d s all taken now runs.Damaged x y =
-    more_going a b d (Opens (Ok s)) (AnswersLines (number_of s.reader) all taken now (Err runs.Damaged)) (Executes all taken now (Err runs.Damaged)) x y
+    more_going own_shard a b d (Opens (Ok s)) (AnswersLines (number_of s.reader) all taken now (Err runs.Damaged)) (Executes all taken now (Err runs.Damaged)) x y
     (λ list start es mid fs b1 b2 opened damaged. let (view, at) = starts_somehow own_shard list start es b1.stands b1.lawful in damaged view (opened view at))
 lines_fail a b d s all taken now runs.Memory x y =
-    more_going a b d (Opens (Ok s)) (AnswersLines (number_of s.reader) all taken now (Err runs.Memory)) (Executes all taken now (Err runs.Memory)) x y
+    more_going own_shard a b d (Opens (Ok s)) (AnswersLines (number_of s.reader) all taken now (Err runs.Memory)) (Executes all taken now (Err runs.Memory)) x y
     (λ list start es mid fs b1 b2 opened h. run_later runs.Memory list start es mid fs b1 h)
 lines_fail a b d s all taken now runs.Sink x y =
-    more_going a b d (Opens (Ok s)) (AnswersLines (number_of s.reader) all taken now (Err runs.Sink)) (Executes all taken now (Err runs.Sink)) x y
+    more_going own_shard a b d (Opens (Ok s)) (AnswersLines (number_of s.reader) all taken now (Err runs.Sink)) (Executes all taken now (Err runs.Sink)) x y
     (λ list start es mid fs b1 b2 opened h. run_later runs.Sink list start es mid fs b1 h)
 lines_fail a b d s all taken now runs.Store x y =
-    more_going a b d (Opens (Ok s)) (AnswersLines (number_of s.reader) all taken now (Err runs.Store)) (Executes all taken now (Err runs.Store)) x y
+    more_going own_shard a b d (Opens (Ok s)) (AnswersLines (number_of s.reader) all taken now (Err runs.Store)) (Executes all taken now (Err runs.Store)) x y
     (λ list start es mid fs b1 b2 opened h. run_later runs.Store list start es mid fs b1 h)
 lines_fail a b d s all taken now runs.MembersFull x y =
-    more_going a b d (Opens (Ok s)) (AnswersLines (number_of s.reader) all taken now (Err runs.MembersFull)) (Executes all taken now (Err runs.MembersFull)) x y
+    more_going own_shard a b d (Opens (Ok s)) (AnswersLines (number_of s.reader) all taken now (Err runs.MembersFull)) (Executes all taken now (Err runs.MembersFull)) x y
     (λ list start es mid fs b1 b2 opened h. run_later runs.MembersFull list start es mid fs b1 h)
 lines_fail a b d s all taken now runs.Spent x y =
-    more_going a b d (Opens (Ok s)) (AnswersLines (number_of s.reader) all taken now (Err runs.Spent)) (Executes all taken now (Err runs.Spent)) x y
+    more_going own_shard a b d (Opens (Ok s)) (AnswersLines (number_of s.reader) all taken now (Err runs.Spent)) (Executes all taken now (Err runs.Spent)) x y
     (λ list start es mid fs b1 b2 opened h. run_later runs.Spent list start es mid fs b1 h)
 
 -- the close failed
-pub close_fails : (a b d : Option History) (how : List Update → Stored → List Entry → List Entry → Type 0) (all : List FeedLine) (taken now : Option (List ℕ)) (fault : SessionFault) → Goes a b how →
-    Goes b d (λ list start es fs. Failed fault start es fs) → Goes a d (Executes all taken now (Err (fault_of fault)))
+pub close_fails : (a b d : Option History) (how : List Update → Stored → List Entry → List Entry → Type 0) (all : List FeedLine) (taken now : Option (List ℕ)) (fault : SessionFault) → Goes own_shard a b how →
+    Goes own_shard b d (λ list start es fs. Failed fault start es fs) → Goes own_shard a d (Executes all taken now (Err (fault_of fault)))
 close_fails a b d how all taken now fault x y =
-    more_going a b d how (λ list start es fs. Failed fault start es fs) (Executes all taken now (Err (fault_of fault))) x y (λ list start es mid fs b1 b2 so h. failed_run fault list start es mid fs b1 h)
+    more_going own_shard a b d how (λ list start es fs. Failed fault start es fs) (Executes all taken now (Err (fault_of fault))) x y (λ list start es mid fs b1 b2 so h. failed_run fault list start es mid fs b1 h)
 
 -- what the session's open and the commands have come to
-pub lines_done : (a b d : Option History) (s : Session) (all : List FeedLine) (taken now : Option (List ℕ)) → Goes a b (Opens (Ok s)) → Goes b d (AnswersLines (number_of s.reader) all taken now (Ok tt)) →
-    Goes a d (λ list start es fs. (view : View) → StartsAt own_shard list start es view → Gains taken now (plain_run view all) × ViewAt own_shard list start fs (number_of s.reader) (plain_end view all))
+pub lines_done : (a b d : Option History) (s : Session) (all : List FeedLine) (taken now : Option (List ℕ)) → Goes own_shard a b (Opens (Ok s)) → Goes own_shard b d (AnswersLines (number_of s.reader) all taken now (Ok tt)) →
+    Goes own_shard a d (λ list start es fs. (view : View) → StartsAt own_shard list start es view → Gains taken now (plain_run view all) × ViewAt own_shard list start fs (number_of s.reader) (plain_end view all))
 lines_done a b d s all taken now x y =
-    more_going a b d (Opens (Ok s)) (AnswersLines (number_of s.reader) all taken now (Ok tt))
+    more_going own_shard a b d (Opens (Ok s)) (AnswersLines (number_of s.reader) all taken now (Ok tt))
     (λ list start es fs. (view : View) → StartsAt own_shard list start es view → Gains taken now (plain_run view all) × ViewAt own_shard list start fs (number_of s.reader) (plain_end view all)) x y
     (λ list start es mid fs b1 b2 opened lines view at. lines view (opened view at))
 
 -- all of it was done
 pub run_done : (a b d : Option History) (reader : ℕ) (all : List FeedLine) (taken now : Option (List ℕ)) →
-    Goes a b (λ list start es fs. (view : View) → StartsAt own_shard list start es view → Gains taken now (plain_run view all) × ViewAt own_shard list start fs reader (plain_end view all)) →
-    Goes b d (Closed (Ok tt)) → Goes a d (Executes all taken now (Ok tt))
+    Goes own_shard a b (λ list start es fs. (view : View) → StartsAt own_shard list start es view → Gains taken now (plain_run view all) × ViewAt own_shard list start fs reader (plain_end view all)) →
+    Goes own_shard b d (Closed (Ok tt)) → Goes own_shard a d (Executes all taken now (Ok tt))
 run_done a b d reader all taken now x y =
-    more_going a b d (λ list start es fs. (view : View) → StartsAt own_shard list start es view → Gains taken now (plain_run view all) × ViewAt own_shard list start fs reader (plain_end view all)) (Closed (Ok tt)) (Executes all taken now (Ok tt)) x y
+    more_going own_shard a b d (λ list start es fs. (view : View) → StartsAt own_shard list start es view → Gains taken now (plain_run view all) × ViewAt own_shard list start fs reader (plain_end view all)) (Closed (Ok tt)) (Executes all taken now (Ok tt)) x y
     (λ list start es mid fs b1 b2 lines closed view at.
     let (gained, v) = lines view at in
     (gained, accepted_stands own_shard list (plain_end view all).collection.updates start fs b2.stands b2.lawful_now (closed ∙ view_accepted own_shard list start mid reader (plain_end view all) v)))
@@ -192,9 +193,9 @@ pub err_same : (r : Result Unit RunFault) (x y : RunFault) → r ≡ Err x → r
 err_same r x y a b = cc
 
 -- where it was lawful it still is, whatever else is so
-pub stays_lawful : (a b : Option History) (how : List Update → Stored → List Entry → List Entry → Type 0) → Goes a b how → StaysLawful a b
-stays_lawful a b how went = going_so a b how (λ list start es now. ⊤) went (λ list start es now bt h. tt)
+pub stays_lawful : (a b : Option History) (how : List Update → Stored → List Entry → List Entry → Type 0) → Goes own_shard a b how → StaysLawful a b
+stays_lawful a b how went = going_so own_shard a b how (λ list start es now. ⊤) went (λ list start es now bt h. tt)
 
 -- nothing was done
 pub rests_lawful : (a : Option History) → StaysLawful a a
-rests_lawful a = no_going a (λ list start es now. ⊤) (λ list start es. tt)
+rests_lawful a = no_going own_shard a (λ list start es now. ⊤) (λ list start es. tt)

@@ -26,7 +26,7 @@ use Rattle.persist_app.specs.declared.run_faults.RunFault.{RunFault}
 use Rattle.persist_app.specs.declared.run_faults.RunFault.TheVariants as runs
 use Rattle.persist_app.specs.Drives.{Failed, ScannedFull, ScannedSpent}
 use Rattle.persist_app.specs.Endings.{AnswersFeed}
-use Rattle.persist_app.specs.Goings.{own_shard}
+use Rattle.persist_app.specs.Sessions.{own_shard}
 use Rattle.persist_app.specs.PlainRuns.{View, plain_end, plain_run}
 use Rattle.persist_app.specs.Sessions.{StartsAt, ViewAt}
 

@@ -14,7 +14,8 @@ use Rattle.store_core.specs.Histories.{History}
 use Rattle.store_core.specs.Newest.{replay_back}
 use Rattle.history_core.specs.Stands.{StandsFor}
 use Rattle.persist_app.specs.Drives.{ScannedFull, ScannedSpent}
-use Rattle.persist_app.specs.Goings.{Goes, own_shard}
+use Rattle.driving.specs.Goings.{Goes}
+use Rattle.persist_app.specs.Sessions.{own_shard}
 use Rattle.persist_app.specs.PlainRuns.{View, plain_end, plain_run}
 use Rattle.persist_app.specs.Sessions.{StartsAt}
 
@@ -57,19 +58,19 @@ AnswersFeed feed taken taken_now list start es now =
 
 -- the history isn't told, or isn't lawful, or its start stands for no list
 abbrev pub NoCollection : Option History → Option History → Type 0
-NoCollection told told_now = Goes told told_now (λ list start es now. ⊥)
+NoCollection told told_now = Goes own_shard told told_now (λ list start es now. ⊥)
 
 -- where the history was told, lawful and from a start that stands for a list, 256 members stood at a Scan that has come since
 abbrev pub FoundFull : Option History → Option History → Type 0
-FoundFull told told_now = Goes told told_now (λ list start es now. ScannedFull start es now)
+FoundFull told told_now = Goes own_shard told told_now (λ list start es now. ScannedFull start es now)
 
 -- the same where no number was left
 abbrev pub FoundSpent : Option History → Option History → Type 0
-FoundSpent told told_now = Goes told told_now (λ list start es now. ScannedSpent start es now)
+FoundSpent told told_now = Goes own_shard told told_now (λ list start es now. ScannedSpent start es now)
 
 -- where the history was lawful, from a start that stands for a list, it still is
 abbrev pub StaysLawful : Option History → Option History → Type 0
-StaysLawful told told_now = Goes told told_now (λ list start es now. ⊤)
+StaysLawful told told_now = Goes own_shard told told_now (λ list start es now. ⊤)
 
 -- The source's text was read to its end and spells a feed. Where the store's history is told, lawful and from a start that stands
 -- for a list, the sink gained the plain run of that feed.
@@ -79,7 +80,7 @@ pub record RunsPlainly (told told_now : Option History) (left left_now taken tak
   pub end : AtEnd left_now
   pub feed : List FeedLine
   pub spells : Spells feed text
-  pub written : Goes told told_now (AnswersFeed feed taken taken_now)
+  pub written : Goes own_shard told told_now (AnswersFeed feed taken taken_now)
 
 -- A line of the source's text is the first outside the grammar or a limit, and the sink gained the line that names it.
 pub record RefusesLine (left taken taken_now : Option (List ℕ)) : Type 0 where
@@ -91,7 +92,7 @@ pub record RefusesLine (left taken taken_now : Option (List ℕ)) : Type 0 where
 
 -- what has become of a text when its commands were executed over a store
 abbrev pub AnswersText : Ending → Option History → Option History → List ℕ → Option (List ℕ) → Option (List ℕ) → ℕ → ℕ → Type 0
-AnswersText endings.Complete told told_now text taken taken_now faults faults_now = (feed : List FeedLine) × Spells feed text × Goes told told_now (AnswersFeed feed taken taken_now)
+AnswersText endings.Complete told told_now text taken taken_now faults faults_now = (feed : List FeedLine) × Spells feed text × Goes own_shard told told_now (AnswersFeed feed taken taken_now)
 AnswersText endings.NoCommand told told_now text taken taken_now faults faults_now = ⊥
 AnswersText (endings.BadLine number) told told_now text taken taken_now faults faults_now = IsFirstFault text number × (taken_now ≡ taken)
 AnswersText endings.InputFailed told told_now text taken taken_now faults faults_now = ⊥

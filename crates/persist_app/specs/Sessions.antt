@@ -16,6 +16,10 @@ use Rattle.history_core.specs.Legal.{collection_in}
 use Rattle.history_core.specs.Stands.{accepted}
 use Rattle.persist_app.specs.PlainRuns.{View, empty_view}
 
+-- the shard of a run
+abbrev pub own_shard : ShardId
+own_shard = record { 0 = 1 }
+
 -- the sinces of the readers that stand
 abbrev pub reader_sinces : List Member → List ℕ
 reader_sinces [] = []

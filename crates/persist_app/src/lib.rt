@@ -11,7 +11,6 @@ mod run_faults;
 mod runs;
 mod session_faults;
 mod sessions;
-mod sole_ports;
 mod statuses;
 mod system_clocks;
 mod words;

@@ -3,14 +3,14 @@ ghost use Rattle.std.specs.Prelude.{◌≡◌, ◌≤◌, ◌+◌, ◌⊎◌, ma
 ghost use Rattle.causes.specs.Causes.{Rose};
 ghost use Rattle.feed_text.specs.declared.limits.TheConstants.{MAX_BYTES};
 ghost use Rattle.feed_text.specs.Streams.{Gains, ReadsUpTo};
-ghost use Rattle.persist_app.specs.StoreTurns.{Extends, StoreFailed};
+ghost use Rattle.driving.specs.StoreTurns.{Extends, StoreFailed};
 ghost use Rattle.persist_app.specs.Endings.{EndsWith, Finishes, FoundFull, FoundSpent, IsRun, IsStatus, NoCollection, Performs, RunsPlainly, RefusesLine, Spares, StaysLawful, input_failed_text, words_text};
 
 use crate::clocks::Clock;
 use crate::endings::Ending;
 use crate::ends::Ended;
 use crate::runs::run;
-use crate::sole_ports::SolePort;
+use driving::SolePort;
 use crate::statuses::Status;
 use crate::words::is_run;
 use feed_text::{Sink, Source, print_line_fault, put_all};

@@ -7,8 +7,9 @@ ghost use Rattle.feed_text.specs.Grammar.{IsCommand, IsFeed};
 ghost use Rattle.causes.specs.Causes.{Rose};
 ghost use Rattle.feed_text.specs.Streams.{ReadsUpTo};
 ghost use Rattle.persist_app.specs.PlainRuns.{reply_to, view_after};
-ghost use Rattle.persist_app.specs.StoreTurns.{StoreFailed};
-ghost use Rattle.persist_app.specs.Goings.{Goes};
+ghost use Rattle.driving.specs.StoreTurns.{StoreFailed};
+ghost use Rattle.driving.specs.Goings.{Goes};
+ghost use Rattle.persist_app.specs.Sessions.{own_shard};
 ghost use Rattle.persist_app.specs.Answering.{AnswersLines, Executes, Ready, Replies, number_of};
 ghost use Rattle.persist_app.specs.Endings.{AnswersText, EndsRun, Spares, StaysLawful};
 
@@ -16,7 +17,7 @@ use crate::endings::Ending;
 use crate::run_faults::RunFault;
 use crate::session_faults::SessionFault;
 use crate::sessions::Session;
-use crate::sole_ports::SolePort;
+use driving::SolePort;
 use feed_text::{
     Feed, FeedLine, FeedLines, LineFault, MAX_BYTES, ReadFault, RunReply, Sink, Source, parse_feed,
     print_reply, put_all, read_up_to,
@@ -35,7 +36,7 @@ fn answer<S: Store>(
     requires ready { Ready (S.history port.old.store) session.old }
     requires token { session.old.writer.token < most }
     requires command { IsCommand line }
-    ensures told { Goes (S.history port.old.store) (S.history port.new.store) (Replies (number_of session.old.reader) (λ view. reply_to view line) (λ view. view_after view line) result) }
+    ensures told { Goes own_shard (S.history port.old.store) (S.history port.new.store) (Replies (number_of session.old.reader) (λ view. reply_to view line) (λ view. view_after view line) result) }
     ensures ready { OnOk result (Ready (S.history port.new.store) session.new) }
     ensures member { OnOk result (session.new.reader.member ≡ session.old.reader.member) }
     ensures token { OnOk result (session.new.writer.token ≤ session.old.writer.token + 1) }
@@ -61,7 +62,7 @@ fn answer_lines<Si: Sink, S: Store>(
     requires ready { Ready (S.history port.old.store) session.old }
     requires token { session.old.writer.token ≡ 0 }
     requires feed { IsFeed lines }
-    ensures told { Goes (S.history port.old.store) (S.history port.new.store) (AnswersLines (number_of session.old.reader) lines (Si.taken out.old) (Si.taken out.new) result) }
+    ensures told { Goes own_shard (S.history port.old.store) (S.history port.new.store) (AnswersLines (number_of session.old.reader) lines (Si.taken out.old) (Si.taken out.new) result) }
     ensures ready { OnOk result (Ready (S.history port.new.store) session.new) }
     ensures cause { result ≡ Err RunFault.Sink → Rose (Si.faults out.old) (Si.faults out.new) }
     ensures failed { result ≡ Err RunFault.Store → StoreFailed (S.history port.new.store) (S.faults port.old.store) (S.faults port.new.store) }
@@ -88,7 +89,7 @@ fn execute<Si: Sink, S: Store>(
     now: u64,
 ) -> Result<(), RunFault>
     requires feed { IsFeed feed.lines }
-    ensures told { Goes (S.history port.old.store) (S.history port.new.store) (Executes feed.lines (Si.taken out.old) (Si.taken out.new) result) }
+    ensures told { Goes own_shard (S.history port.old.store) (S.history port.new.store) (Executes feed.lines (Si.taken out.old) (Si.taken out.new) result) }
     ensures cause { result ≡ Err RunFault.Sink → Rose (Si.faults out.old) (Si.faults out.new) }
     ensures failed { result ≡ Err RunFault.Store → StoreFailed (S.history port.new.store) (S.faults port.old.store) (S.faults port.new.store) }
     ensures later { Si.faults out.old ≤ Si.faults out.new }

@@ -1,8 +1,9 @@
 // Why a session gives no reply.
 ghost use Rattle.std.specs.Prelude.{◌≡◌};
 ghost use Rattle.persist_app.specs.declared.session_faults.SessionFault.TheVariants.{Memory};
-ghost use Rattle.persist_app.specs.RunFaults.{begin_fault};
+ghost use Rattle.persist_app.specs.RunFaults.{begin_fault, drive_fault};
 
+use driving::DriveFault;
 use load_core::BeginFault;
 use std::alloc::AllocError;
 use thiserror::Error;
@@ -42,6 +43,19 @@ impl From<BeginFault> for SessionFault {
         match fault {
             BeginFault::Memory => SessionFault::Memory,
             _ => SessionFault::Damaged,
+        }
+    }
+}
+
+impl From<DriveFault> for SessionFault {
+    ghost from_gives = { λ fault e. e ≡ drive_fault fault };
+
+    fn from(fault: DriveFault) -> Self {
+        match fault {
+            DriveFault::Memory => SessionFault::Memory,
+            DriveFault::Store => SessionFault::Store,
+            DriveFault::Damaged => SessionFault::Damaged,
+            DriveFault::Spent => SessionFault::Spent,
         }
     }
 }

@@ -6,14 +6,15 @@ ghost use Rattle.update_core.specs.Frontiers.{after, covers};
 ghost use Rattle.update_core.specs.Updates.{weight_of};
 ghost use Rattle.state_core.specs.VersionReading.{most};
 ghost use Rattle.persist_app.specs.PlainRuns.{append_reply, append_text, collection_after, is_outside, listen_text, since_reply, snapshot_text, view_since, view_with};
-ghost use Rattle.persist_app.specs.StoreTurns.{StoreFailed};
-ghost use Rattle.persist_app.specs.Goings.{Goes, GrowsBy};
+ghost use Rattle.driving.specs.StoreTurns.{StoreFailed};
+ghost use Rattle.driving.specs.Goings.{Goes, GrowsBy};
+ghost use Rattle.persist_app.specs.Sessions.{own_shard};
 ghost use Rattle.persist_app.specs.Answering.{Closed, Opens, OpensReader, OpensWriter, ReaderReady, Ready, Replies, WriterReady, number_of, read_reply, reader_let_in, write_reply, writer_let_in};
 
 use crate::collections::first_outside;
 use crate::drives::{drive_reader, drive_writer};
 use crate::session_faults::SessionFault;
-use crate::sole_ports::SolePort;
+use driving::SolePort;
 use feed_text::RunReply;
 use history_core::{ReadAnswer, WriteAnswer};
 use read_client::Reader;
@@ -24,11 +25,6 @@ use write_client::Writer;
 
 /// The shard of a run.
 const SHARD: ShardId = ShardId(1);
-
-/// The writer's client, and the reader's.
-const WRITER: u64 = 0;
-
-const READER: u64 = 1;
 
 /// How long a reader is kept what it reads, from the moment that the clock told.
 const LEASE: u64 = 1_000_000;
@@ -96,13 +92,12 @@ fn reader_joined(answer: ReadAnswer) -> Result<(), SessionFault>
 
 // A writer that has joined.
 fn open_writer<S: Store>(alloc: Global, port: &mut SolePort<S>) -> Result<Writer, SessionFault>
-    ensures told { Goes (S.history port.old.store) (S.history port.new.store) (OpensWriter result) }
+    ensures told { Goes own_shard (S.history port.old.store) (S.history port.new.store) (OpensWriter result) }
     ensures ready { IfOk result (WriterReady (S.history port.new.store)) }
     ensures token { IfOk result (λ w. w.token ≡ 0) }
     ensures failed { result ≡ Err SessionFault.Store → StoreFailed (S.history port.new.store) (S.faults port.old.store) (S.faults port.new.store) }
     ensures later { S.faults port.old.store ≤ S.faults port.new.store }
 {
-    port.client = WRITER;
     let mut writer = Writer::open(alloc, SHARD);
     let answer = drive_writer(alloc, &mut writer, port)?;
     writer_joined(answer)?;
@@ -115,13 +110,12 @@ fn open_reader<S: Store>(
     port: &mut SolePort<S>,
     now: u64,
 ) -> Result<Reader, SessionFault>
-    ensures told { Goes (S.history port.old.store) (S.history port.new.store) (OpensReader result) }
+    ensures told { Goes own_shard (S.history port.old.store) (S.history port.new.store) (OpensReader result) }
     ensures by { OnOk result (GrowsBy 1 (S.history port.old.store) (S.history port.new.store)) }
     ensures ready { IfOk result (ReaderReady (S.history port.new.store)) }
     ensures failed { result ≡ Err SessionFault.Store → StoreFailed (S.history port.new.store) (S.faults port.old.store) (S.faults port.new.store) }
     ensures later { S.faults port.old.store ≤ S.faults port.new.store }
 {
-    port.client = READER;
     let mut reader = Reader::open(alloc, SHARD, now, LEASE);
     let answer = drive_reader(alloc, &mut reader, port)?;
     reader_joined(answer)?;
@@ -135,7 +129,7 @@ impl Session {
         port: &mut SolePort<S>,
         now: u64,
     ) -> Result<Session, SessionFault>
-        ensures told { Goes (S.history port.old.store) (S.history port.new.store) (Opens result) }
+        ensures told { Goes own_shard (S.history port.old.store) (S.history port.new.store) (Opens result) }
         ensures ready { IfOk result (Ready (S.history port.new.store)) }
         ensures token { IfOk result (λ s. s.writer.token ≡ 0) }
         ensures failed { result ≡ Err SessionFault.Store → StoreFailed (S.history port.new.store) (S.faults port.old.store) (S.faults port.new.store) }
@@ -157,7 +151,7 @@ impl Session {
         requires ready { Ready (S.history port.old.store) self.old }
         requires token { self.old.writer.token < most }
         requires few { length append.rows ≤ MAX_ROWS }
-        ensures told { Goes (S.history port.old.store) (S.history port.new.store) (Replies (number_of self.old.reader) (λ view. append_reply view.collection append) (λ view. view_with view (collection_after view.collection append)) result) }
+        ensures told { Goes own_shard (S.history port.old.store) (S.history port.new.store) (Replies (number_of self.old.reader) (λ view. append_reply view.collection append) (λ view. view_with view (collection_after view.collection append)) result) }
         ensures ready { OnOk result (Ready (S.history port.new.store) self.new) }
         ensures member { OnOk result (self.new.reader.member ≡ self.old.reader.member) }
         ensures token { OnOk result (self.new.writer.token ≤ self.old.writer.token + 1) }
@@ -187,7 +181,7 @@ impl Session {
         requires few { length append.rows ≤ MAX_ROWS }
         requires forward { covers append.upper append.lower ≡ true }
         requires in_range { position (is_outside append) append.rows ≡ None }
-        ensures told { Goes (S.history port.old.store) (S.history port.new.store) (Replies (number_of self.old.reader) (λ view. append_text (append_answer view.collection append.lower (weight_of append.rows))) (λ view. view_with view (after_append view.collection append.rows append.lower append.upper (weight_of append.rows))) result) }
+        ensures told { Goes own_shard (S.history port.old.store) (S.history port.new.store) (Replies (number_of self.old.reader) (λ view. append_text (append_answer view.collection append.lower (weight_of append.rows))) (λ view. view_with view (after_append view.collection append.rows append.lower append.upper (weight_of append.rows))) result) }
         ensures ready { OnOk result (Ready (S.history port.new.store) self.new) }
         ensures member { OnOk result (self.new.reader.member ≡ self.old.reader.member) }
         ensures token { OnOk result (self.new.writer.token ≤ self.old.writer.token + 1) }
@@ -196,8 +190,7 @@ impl Session {
     {
         let FeedAppend { lower, upper, rows } = append;
         self.writer.begin_append(alloc, rows, lower, upper)?;
-        port.client = WRITER;
-        let answer = drive_writer(alloc, &mut self.writer, port)?;
+            let answer = drive_writer(alloc, &mut self.writer, port)?;
         reply_written(answer)
     }
 
@@ -209,7 +202,7 @@ impl Session {
         t: u64,
     ) -> Result<RunReply, SessionFault>
         requires ready { Ready (S.history port.old.store) self.old }
-        ensures told { Goes (S.history port.old.store) (S.history port.new.store) (Replies (number_of self.old.reader) (λ view. snapshot_text (snapshot_answer view.collection t)) (λ view. view) result) }
+        ensures told { Goes own_shard (S.history port.old.store) (S.history port.new.store) (Replies (number_of self.old.reader) (λ view. snapshot_text (snapshot_answer view.collection t)) (λ view. view) result) }
         ensures ready { OnOk result (Ready (S.history port.new.store) self.new) }
         ensures member { OnOk result (self.new.reader.member ≡ self.old.reader.member) }
         ensures token { OnOk result (self.new.writer.token ≡ self.old.writer.token) }
@@ -217,7 +210,6 @@ impl Session {
         ensures later { S.faults port.old.store ≤ S.faults port.new.store }
     {
         self.reader.begin_snapshot(t)?;
-        port.client = READER;
         let answer = drive_reader(alloc, &mut self.reader, port)?;
         reply_read(answer)
     }
@@ -230,7 +222,7 @@ impl Session {
         t: u64,
     ) -> Result<RunReply, SessionFault>
         requires ready { Ready (S.history port.old.store) self.old }
-        ensures told { Goes (S.history port.old.store) (S.history port.new.store) (Replies (number_of self.old.reader) (λ view. listen_text (listen_answer view.collection (after t))) (λ view. view) result) }
+        ensures told { Goes own_shard (S.history port.old.store) (S.history port.new.store) (Replies (number_of self.old.reader) (λ view. listen_text (listen_answer view.collection (after t))) (λ view. view) result) }
         ensures ready { OnOk result (Ready (S.history port.new.store) self.new) }
         ensures member { OnOk result (self.new.reader.member ≡ self.old.reader.member) }
         ensures token { OnOk result (self.new.writer.token ≡ self.old.writer.token) }
@@ -238,7 +230,6 @@ impl Session {
         ensures later { S.faults port.old.store ≤ S.faults port.new.store }
     {
         self.reader.begin_listen(t)?;
-        port.client = READER;
         let answer = drive_reader(alloc, &mut self.reader, port)?;
         reply_read(answer)
     }
@@ -251,7 +242,7 @@ impl Session {
         to: u64,
     ) -> Result<RunReply, SessionFault>
         requires ready { Ready (S.history port.old.store) self.old }
-        ensures told { Goes (S.history port.old.store) (S.history port.new.store) (Replies (number_of self.old.reader) (λ view. since_reply view.own to) (λ view. view_since view to) result) }
+        ensures told { Goes own_shard (S.history port.old.store) (S.history port.new.store) (Replies (number_of self.old.reader) (λ view. since_reply view.own to) (λ view. view_since view to) result) }
         ensures ready { OnOk result (Ready (S.history port.new.store) self.new) }
         ensures member { OnOk result (self.new.reader.member ≡ self.old.reader.member) }
         ensures token { OnOk result (self.new.writer.token ≡ self.old.writer.token) }
@@ -259,7 +250,6 @@ impl Session {
         ensures later { S.faults port.old.store ≤ S.faults port.new.store }
     {
         self.reader.begin_advance(to)?;
-        port.client = READER;
         let answer = drive_reader(alloc, &mut self.reader, port)?;
         reply_read(answer)
     }
@@ -271,14 +261,13 @@ impl Session {
         port: &mut SolePort<S>,
     ) -> Result<(), SessionFault>
         requires ready { Ready (S.history port.old.store) self.old }
-        ensures told { Goes (S.history port.old.store) (S.history port.new.store) (Closed result) }
+        ensures told { Goes own_shard (S.history port.old.store) (S.history port.new.store) (Closed result) }
         ensures ready { OnOk result (ReaderReady (S.history port.new.store) self.new.reader) }
         ensures failed { result ≡ Err SessionFault.Store → StoreFailed (S.history port.new.store) (S.faults port.old.store) (S.faults port.new.store) }
         ensures later { S.faults port.old.store ≤ S.faults port.new.store }
     {
         self.writer.begin_close(alloc)?;
-        port.client = WRITER;
-        let _answer = drive_writer(alloc, &mut self.writer, port)?;
+            let _answer = drive_writer(alloc, &mut self.writer, port)?;
         Ok(())
     }
 
@@ -289,12 +278,11 @@ impl Session {
         port: &mut SolePort<S>,
     ) -> Result<(), SessionFault>
         requires ready { ReaderReady (S.history port.old.store) self.old.reader }
-        ensures told { Goes (S.history port.old.store) (S.history port.new.store) (Closed result) }
+        ensures told { Goes own_shard (S.history port.old.store) (S.history port.new.store) (Closed result) }
         ensures failed { result ≡ Err SessionFault.Store → StoreFailed (S.history port.new.store) (S.faults port.old.store) (S.faults port.new.store) }
         ensures later { S.faults port.old.store ≤ S.faults port.new.store }
     {
         self.reader.begin_close()?;
-        port.client = READER;
         let _answer = drive_reader(alloc, &mut self.reader, port)?;
         Ok(())
     }
@@ -306,7 +294,7 @@ impl Session {
         port: &mut SolePort<S>,
     ) -> Result<(), SessionFault>
         requires ready { Ready (S.history port.old.store) self.old }
-        ensures told { Goes (S.history port.old.store) (S.history port.new.store) (Closed result) }
+        ensures told { Goes own_shard (S.history port.old.store) (S.history port.new.store) (Closed result) }
         ensures failed { result ≡ Err SessionFault.Store → StoreFailed (S.history port.new.store) (S.faults port.old.store) (S.faults port.new.store) }
         ensures later { S.faults port.old.store ≤ S.faults port.new.store }
     {

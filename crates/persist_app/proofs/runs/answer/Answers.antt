@@ -1,22 +1,23 @@
 use Rattle.std.proofs.Common.{sym, subst}
 use Rattle.feed_text.specs.declared.feed_lines.FeedLine.{FeedLine}
 use Rattle.persist_app.specs.Answering.{Replies, number_of}
-use Rattle.persist_app.specs.Goings.{Goes}
+use Rattle.driving.specs.Goings.{Goes}
+use Rattle.persist_app.specs.Sessions.{own_shard}
 use Rattle.persist_app.specs.PlainRuns.{reply_to, view_after}
 use Rattle.persist_app.proofs.runs.answer.Goals as goal
 
 pub returns-in-Append-clause-told : goal.returns-in-Append-clause-told
 returns-in-Append-clause-told g c =
-    subst (λ (line : FeedLine). Goes (g.S.Store.history c.args.port.now.store) (g.S.Store.history c.append.new.port.store) (Replies (number_of c.args.session.now.reader) (λ view. reply_to view line) (λ view. view_after view line) c.append.result)) (sym c.in-Append.is) c.append.ensures.told
+    subst (λ (line : FeedLine). Goes own_shard (g.S.Store.history c.args.port.now.store) (g.S.Store.history c.append.new.port.store) (Replies (number_of c.args.session.now.reader) (λ view. reply_to view line) (λ view. view_after view line) c.append.result)) (sym c.in-Append.is) c.append.ensures.told
 
 pub returns-in-Snapshot-clause-told : goal.returns-in-Snapshot-clause-told
 returns-in-Snapshot-clause-told g c =
-    subst (λ (line : FeedLine). Goes (g.S.Store.history c.args.port.now.store) (g.S.Store.history c.snapshot.new.port.store) (Replies (number_of c.args.session.now.reader) (λ view. reply_to view line) (λ view. view_after view line) c.snapshot.result)) (sym c.in-Snapshot.is) c.snapshot.ensures.told
+    subst (λ (line : FeedLine). Goes own_shard (g.S.Store.history c.args.port.now.store) (g.S.Store.history c.snapshot.new.port.store) (Replies (number_of c.args.session.now.reader) (λ view. reply_to view line) (λ view. view_after view line) c.snapshot.result)) (sym c.in-Snapshot.is) c.snapshot.ensures.told
 
 pub returns-in-Listen-clause-told : goal.returns-in-Listen-clause-told
 returns-in-Listen-clause-told g c =
-    subst (λ (line : FeedLine). Goes (g.S.Store.history c.args.port.now.store) (g.S.Store.history c.listen.new.port.store) (Replies (number_of c.args.session.now.reader) (λ view. reply_to view line) (λ view. view_after view line) c.listen.result)) (sym c.in-Listen.is) c.listen.ensures.told
+    subst (λ (line : FeedLine). Goes own_shard (g.S.Store.history c.args.port.now.store) (g.S.Store.history c.listen.new.port.store) (Replies (number_of c.args.session.now.reader) (λ view. reply_to view line) (λ view. view_after view line) c.listen.result)) (sym c.in-Listen.is) c.listen.ensures.told
 
 pub returns-in-Since-clause-told : goal.returns-in-Since-clause-told
 returns-in-Since-clause-told g c =
-    subst (λ (line : FeedLine). Goes (g.S.Store.history c.args.port.now.store) (g.S.Store.history c.advance.new.port.store) (Replies (number_of c.args.session.now.reader) (λ view. reply_to view line) (λ view. view_after view line) c.advance.result)) (sym c.in-Since.is) c.advance.ensures.told
+    subst (λ (line : FeedLine). Goes own_shard (g.S.Store.history c.args.port.now.store) (g.S.Store.history c.advance.new.port.store) (Replies (number_of c.args.session.now.reader) (λ view. reply_to view line) (λ view. view_after view line) c.advance.result)) (sym c.in-Since.is) c.advance.ensures.told

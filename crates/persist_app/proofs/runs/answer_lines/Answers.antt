@@ -9,7 +9,8 @@ use Rattle.feed_text.specs.Replies.{reply_text}
 use Rattle.persist_app.specs.declared.run_faults.RunFault.{RunFault}
 use Rattle.persist_app.specs.declared.run_faults.RunFault.TheVariants as runs
 use Rattle.persist_app.specs.Answering.{AnswersLines, Replies, number_of}
-use Rattle.persist_app.specs.Goings.{Goes}
+use Rattle.driving.specs.Goings.{Goes}
+use Rattle.persist_app.specs.Sessions.{own_shard}
 use Rattle.persist_app.specs.PlainRuns.{reply_to, view_after}
 use Rattle.persist_app.proofs.RunLaws.{run_over_ends, run_over_fails, run_over_goes_on, run_over_starts, run_over_stops}
 use Rattle.persist_app.proofs.runs.answer_lines.Goals as goal
@@ -39,11 +40,11 @@ returns-in_err-reply-clause-told g c =
     let n = number_of c.args.session.now.reader in
     let all_is : c.from-lines.result.items ≡ c.args.lines = cc in
     let number : number_of c.loop-line.session.reader ≡ n = ap (λ (m : Option ℕ). unwrap_or m 0) c.loop-line.invariant.member in
-    let told = subst (λ (m : ℕ). Goes b d (Replies m (λ view. reply_to view c.in-Some.line) (λ view. view_after view c.in-Some.line) (Err c.in_err-reply.field-0.0))) number c.in_err-reply.ensures.told in
+    let told = subst (λ (m : ℕ). Goes own_shard b d (Replies m (λ view. reply_to view c.in-Some.line) (λ view. view_after view c.in-Some.line) (Err c.in_err-reply.field-0.0))) number c.in_err-reply.ensures.told in
     let went = run_over_fails n a b d (taken c.args.out.now) (taken c.loop-line.out) (taken c.loop-line.out) c.from-lines.result.items c.loop-line.lines.items c.in-Some.line c.in_err-reply.field-0.0 c.loop-line.invariant.over told in
     let p = err_from_is_err_and c.from_residual.result c.from_residual.ensures.1 in
-    rw p.1 (subst (λ (e : RunFault). Goes a d (AnswersLines n c.args.lines (taken c.args.out.now) (taken c.loop-line.out) (Err e))) (sym p.2)
-    (subst (λ (all : List FeedLine). Goes a d (AnswersLines n all (taken c.args.out.now) (taken c.loop-line.out) (Err (fault_of c.in_err-reply.field-0.0)))) all_is went))
+    rw p.1 (subst (λ (e : RunFault). Goes own_shard a d (AnswersLines n c.args.lines (taken c.args.out.now) (taken c.loop-line.out) (Err e))) (sym p.2)
+    (subst (λ (all : List FeedLine). Goes own_shard a d (AnswersLines n all (taken c.args.out.now) (taken c.loop-line.out) (Err (fault_of c.in_err-reply.field-0.0)))) all_is went))
 
 pub returns-in_err-print_reply-clause-told : goal.returns-in_err-print_reply-clause-told
 returns-in_err-print_reply-clause-told g c =
@@ -57,8 +58,8 @@ returns-in_err-print_reply-clause-told g c =
     let went = run_over_stops n a b d (taken c.args.out.now) (taken c.loop-line.out) (taken c.loop-line.out) c.from-lines.result.items c.loop-line.lines.items (Replies (number_of c.loop-line.session.reader) (λ view. reply_to view c.in-Some.line) (λ view. view_after view c.in-Some.line) (Ok c.in_ok-reply.reply)) runs.Memory
     (λ list start es fs. tt) c.loop-line.invariant.over c.in_ok-reply.ensures.told in
     let p = err_from_is_err_and c.from_residual-in_err-print_reply.result c.from_residual-in_err-print_reply.ensures.1 in
-    rw p.1 (subst (λ (e : RunFault). Goes a d (AnswersLines n c.args.lines (taken c.args.out.now) (taken c.loop-line.out) (Err e))) (sym p.2)
-    (subst (λ (all : List FeedLine). Goes a d (AnswersLines n all (taken c.args.out.now) (taken c.loop-line.out) (Err runs.Memory))) all_is went))
+    rw p.1 (subst (λ (e : RunFault). Goes own_shard a d (AnswersLines n c.args.lines (taken c.args.out.now) (taken c.loop-line.out) (Err e))) (sym p.2)
+    (subst (λ (all : List FeedLine). Goes own_shard a d (AnswersLines n all (taken c.args.out.now) (taken c.loop-line.out) (Err runs.Memory))) all_is went))
 
 pub returns-in_err-put_all-clause-told : goal.returns-in_err-put_all-clause-told
 returns-in_err-put_all-clause-told g c =
@@ -72,8 +73,8 @@ returns-in_err-put_all-clause-told g c =
     let went = run_over_stops n a b d (taken c.args.out.now) (taken c.loop-line.out) (taken c.put_all.new.sink) c.from-lines.result.items c.loop-line.lines.items (Replies (number_of c.loop-line.session.reader) (λ view. reply_to view c.in-Some.line) (λ view. view_after view c.in-Some.line) (Ok c.in_ok-reply.reply)) runs.Sink
     (λ list start es fs. tt) c.loop-line.invariant.over c.in_ok-reply.ensures.told in
     let p = err_from_is_err_and c.from_residual-in_err-put_all.result c.from_residual-in_err-put_all.ensures.1 in
-    rw p.1 (subst (λ (e : RunFault). Goes a d (AnswersLines n c.args.lines (taken c.args.out.now) (taken c.put_all.new.sink) (Err e))) (sym p.2)
-    (subst (λ (all : List FeedLine). Goes a d (AnswersLines n all (taken c.args.out.now) (taken c.put_all.new.sink) (Err runs.Sink))) all_is went))
+    rw p.1 (subst (λ (e : RunFault). Goes own_shard a d (AnswersLines n c.args.lines (taken c.args.out.now) (taken c.put_all.new.sink) (Err e))) (sym p.2)
+    (subst (λ (all : List FeedLine). Goes own_shard a d (AnswersLines n all (taken c.args.out.now) (taken c.put_all.new.sink) (Err runs.Sink))) all_is went))
 
 pub returns-clause-told : goal.returns-clause-told
 returns-clause-told g c =
@@ -84,7 +85,7 @@ returns-clause-told g c =
     let n = number_of c.args.session.now.reader in
     let all_is : c.from-lines.result.items ≡ c.args.lines = cc in
     let none : c.loop-line.lines.items ≡ [] = search rules in
-    subst (λ (all : List FeedLine). Goes a b (AnswersLines n all (taken c.args.out.now) (taken c.loop-line.out) (Ok tt))) all_is
+    subst (λ (all : List FeedLine). Goes own_shard a b (AnswersLines n all (taken c.args.out.now) (taken c.loop-line.out) (Ok tt))) all_is
     (run_over_ends n a b (taken c.args.out.now) (taken c.loop-line.out) c.from-lines.result.items c.loop-line.lines.items none c.loop-line.invariant.over)
 
 pub loop-line-preserved-in_ok-put_all : goal.loop-line-preserved-in_ok-put_all
@@ -97,7 +98,7 @@ loop-line-preserved-in_ok-put_all g c =
     let d = history c.answer.new.port.store in
     let n = number_of c.args.session.now.reader in
     let number : number_of c.loop-line.session.reader ≡ n = ap (λ (m : Option ℕ). unwrap_or m 0) c.loop-line.invariant.member in
-    let told = subst (λ (m : ℕ). Goes b d (Replies m (λ view. reply_to view c.in-Some.line) (λ view. view_after view c.in-Some.line) (Ok reply))) number c.in_ok-reply.ensures.told in
+    let told = subst (λ (m : ℕ). Goes own_shard b d (Replies m (λ view. reply_to view c.in-Some.line) (λ view. view_after view c.in-Some.line) (Ok reply))) number c.in_ok-reply.ensures.told in
     let text_is : c.deref.result.now ≡ reply_text reply = c.deref.ensures.value ∙ c.in_ok-print_reply.ensures.ok ∙ ap (λ t. t ++ reply_text reply) c.clear.ensures.items in
     let split = c.in-Some.ensures.items in
     let lengths : length c.loop-line.lines.items ≡ length c.pop_front.new.self.items + 1 = ap (λ (ls : List FeedLine). length ls) split ∙ (omega arith) in
@@ -124,7 +125,7 @@ loop-line-preserved-in_ok-put_all-2 g c =
     let d = history c.answer.new.port.store in
     let n = number_of c.args.session.now.reader in
     let number : number_of c.loop-line.session.reader ≡ n = ap (λ (m : Option ℕ). unwrap_or m 0) c.loop-line.invariant.member in
-    let told = subst (λ (m : ℕ). Goes b d (Replies m (λ view. reply_to view c.in-Some.line) (λ view. view_after view c.in-Some.line) (Ok reply))) number c.in_ok-reply.ensures.told in
+    let told = subst (λ (m : ℕ). Goes own_shard b d (Replies m (λ view. reply_to view c.in-Some.line) (λ view. view_after view c.in-Some.line) (Ok reply))) number c.in_ok-reply.ensures.told in
     let text_is : c.deref.result.now ≡ reply_text reply = c.deref.ensures.value ∙ c.in_ok-print_reply.ensures.ok ∙ ap (λ t. t ++ reply_text reply) c.clear.ensures.items in
     let split = c.in-Some.ensures.items in
     let lengths : length c.loop-line.lines.items ≡ length c.pop_front.new.self.items + 1 = ap (λ (ls : List FeedLine). length ls) split ∙ (omega arith) in
@@ -151,7 +152,7 @@ loop-line-preserved g c =
     let d = history c.answer.new.port.store in
     let n = number_of c.args.session.now.reader in
     let number : number_of c.loop-line.session.reader ≡ n = ap (λ (m : Option ℕ). unwrap_or m 0) c.loop-line.invariant.member in
-    let told = subst (λ (m : ℕ). Goes b d (Replies m (λ view. reply_to view c.in-Some.line) (λ view. view_after view c.in-Some.line) (Ok reply))) number c.in_ok-reply.ensures.told in
+    let told = subst (λ (m : ℕ). Goes own_shard b d (Replies m (λ view. reply_to view c.in-Some.line) (λ view. view_after view c.in-Some.line) (Ok reply))) number c.in_ok-reply.ensures.told in
     let text_is : c.deref.result.now ≡ reply_text reply = c.deref.ensures.value ∙ c.in_ok-print_reply.ensures.ok ∙ ap (λ t. t ++ reply_text reply) c.clear.ensures.items in
     let split = c.in-Some.ensures.items in
     let lengths : length c.loop-line.lines.items ≡ length c.pop_front.new.self.items + 1 = ap (λ (ls : List FeedLine). length ls) split ∙ (omega arith) in

@@ -1,7 +1,8 @@
 use Rattle.std.proofs.Common.{subst}
 use Rattle.persist_app.specs.declared.run_faults.RunFault.{RunFault}
 use Rattle.persist_app.specs.Answering.{Executes, FailedRun}
-use Rattle.persist_app.specs.Goings.{Goes}
+use Rattle.driving.specs.Goings.{Goes}
+use Rattle.persist_app.specs.Sessions.{own_shard}
 use Rattle.persist_app.proofs.RunLaws.{rests_lawful, stays_lawful}
 use Rattle.persist_app.proofs.runs.answer_text.Goals as goal
 
@@ -38,12 +39,12 @@ returns-in-Err-Memory-execute-clause-lawful g c =
 
 pub returns-in-Err-Damaged-clause-ends : goal.returns-in-Err-Damaged-clause-ends
 returns-in-Err-Damaged-clause-ends g c =
-    subst (λ (f : RunFault). Goes (g.S.Store.history c.args.port.now.store) (g.S.Store.history c.execute.new.port.store) (λ list start es now. FailedRun f start es now)) c.in-Err-Damaged.field-0-is c.in-Err-Damaged.ensures.told
+    subst (λ (f : RunFault). Goes own_shard (g.S.Store.history c.args.port.now.store) (g.S.Store.history c.execute.new.port.store) (λ list start es now. FailedRun f start es now)) c.in-Err-Damaged.field-0-is c.in-Err-Damaged.ensures.told
 
 pub returns-in-Err-MembersFull-clause-ends : goal.returns-in-Err-MembersFull-clause-ends
 returns-in-Err-MembersFull-clause-ends g c =
-    subst (λ (f : RunFault). Goes (g.S.Store.history c.args.port.now.store) (g.S.Store.history c.execute.new.port.store) (λ list start es now. FailedRun f start es now)) c.in-Err-MembersFull.field-0-is c.in-Err-MembersFull.ensures.told
+    subst (λ (f : RunFault). Goes own_shard (g.S.Store.history c.args.port.now.store) (g.S.Store.history c.execute.new.port.store) (λ list start es now. FailedRun f start es now)) c.in-Err-MembersFull.field-0-is c.in-Err-MembersFull.ensures.told
 
 pub returns-in-Err-Spent-clause-ends : goal.returns-in-Err-Spent-clause-ends
 returns-in-Err-Spent-clause-ends g c =
-    subst (λ (f : RunFault). Goes (g.S.Store.history c.args.port.now.store) (g.S.Store.history c.execute.new.port.store) (λ list start es now. FailedRun f start es now)) c.in-Err-Spent.field-0-is c.in-Err-Spent.ensures.told
+    subst (λ (f : RunFault). Goes own_shard (g.S.Store.history c.args.port.now.store) (g.S.Store.history c.execute.new.port.store) (λ list start es now. FailedRun f start es now)) c.in-Err-Spent.field-0-is c.in-Err-Spent.ensures.told

@@ -4,7 +4,8 @@ use Rattle.causes.specs.Causes.{Rose}
 use Rattle.persist_app.specs.declared.run_faults.RunFault.{RunFault}
 use Rattle.persist_app.specs.declared.run_faults.RunFault.TheVariants as runs
 use Rattle.persist_app.specs.Answering.{Executes, number_of}
-use Rattle.persist_app.specs.Goings.{Goes, own_shard}
+use Rattle.driving.specs.Goings.{Goes}
+use Rattle.persist_app.specs.Sessions.{own_shard}
 use Rattle.persist_app.specs.PlainRuns.{View, plain_end, plain_run}
 use Rattle.persist_app.specs.RunFaults.{fault_of}
 use Rattle.persist_app.specs.Sessions.{StartsAt, ViewAt}
@@ -18,7 +19,7 @@ returns-in_err-session-clause-told g c =
     let b = g.S.Store.history c.open.new.port.store in
     let taken = g.Si.Sink.taken c.args.out.now in
     let p = err_from_is_err_and c.from_residual.result c.from_residual.ensures.1 in
-    rw p.1 (subst (λ (e : RunFault). Goes a b (Executes c.args.feed.lines taken taken (Err e))) (sym p.2) (open_fails a b c.args.feed.lines taken taken c.in_err-session.field-0.0 c.in_err-session.ensures.told))
+    rw p.1 (subst (λ (e : RunFault). Goes own_shard a b (Executes c.args.feed.lines taken taken (Err e))) (sym p.2) (open_fails a b c.args.feed.lines taken taken c.in_err-session.field-0.0 c.in_err-session.ensures.told))
 
 pub returns-in_err-answer_lines-clause-told : goal.returns-in_err-answer_lines-clause-told
 returns-in_err-answer_lines-clause-told g c =
@@ -27,7 +28,7 @@ returns-in_err-answer_lines-clause-told g c =
     let d = g.S.Store.history c.answer_lines.new.port.store in
     let taken = g.Si.Sink.taken in
     let p = err_from_is_err_and c.from_residual-in_err-answer_lines.result c.from_residual-in_err-answer_lines.ensures.1 in
-    rw p.1 (subst (λ (e : RunFault). Goes a d (Executes c.args.feed.lines (taken c.args.out.now) (taken c.answer_lines.new.out) (Err e))) (sym p.2)
+    rw p.1 (subst (λ (e : RunFault). Goes own_shard a d (Executes c.args.feed.lines (taken c.args.out.now) (taken c.answer_lines.new.out) (Err e))) (sym p.2)
     (lines_fail a b d c.in_ok-session.session c.args.feed.lines (taken c.args.out.now) (taken c.answer_lines.new.out) c.in_err-answer_lines.field-0.0 c.in_ok-session.ensures.told c.in_err-answer_lines.ensures.told))
 
 pub returns-in_err-close-clause-told : goal.returns-in_err-close-clause-told
@@ -42,7 +43,7 @@ returns-in_err-close-clause-told g c =
     let now = taken c.answer_lines.new.out in
     let done = lines_done a b d s all (taken c.args.out.now) now c.in_ok-session.ensures.told c.in_ok-answer_lines.ensures.told in
     let p = err_from_is_err_and c.from_residual-in_err-close.result c.from_residual-in_err-close.ensures.1 in
-    rw p.1 (subst (λ (x : RunFault). Goes a e (Executes all (taken c.args.out.now) now (Err x))) (sym p.2)
+    rw p.1 (subst (λ (x : RunFault). Goes own_shard a e (Executes all (taken c.args.out.now) now (Err x))) (sym p.2)
     (close_fails a d e (λ list start es fs. (view : View) → StartsAt own_shard list start es view → Gains (taken c.args.out.now) now (plain_run view all) × ViewAt own_shard list start fs (number_of s.reader) (plain_end view all))
     all (taken c.args.out.now) now c.in_err-close.field-0.0 done c.in_err-close.ensures.told))
 

@@ -5,8 +5,11 @@ use Rattle.update_core.specs.Updates.{weight_of}
 use Rattle.feed_text.specs.declared.replies.RunReply.{RunReply}
 use Rattle.persist_app.specs.declared.session_faults.SessionFault.{SessionFault}
 use Rattle.persist_app.specs.Answering.{Ready, number_of}
+use Rattle.write_client.specs.Machining.{Kept, machine}
+use Rattle.driving.specs.Drives.{Answered}
 use Rattle.persist_app.specs.Drives.{Failed}
-use Rattle.persist_app.specs.Goings.{Goes}
+use Rattle.driving.specs.Goings.{Goes}
+use Rattle.persist_app.specs.Sessions.{own_shard}
 use Rattle.persist_app.specs.PlainRuns.{append_text, view_with}
 use Rattle.persist_app.proofs.ReplyLaws.{append_begun, failed_replies, on_reply, ready_written}
 use Rattle.persist_app.proofs.SessionLaws.{AnswersAppendOf, appends}
@@ -19,7 +22,7 @@ returns-in_err-answer-clause-told g c =
     let x = c.args.append in
     let p = err_from_is_err_and c.from_residual-in_err-answer.result c.from_residual-in_err-answer.ensures.1 in
     rw p.1 (failed_replies a d (number_of c.args.self.now.reader) (λ view. append_text (append_answer view.collection x.lower (weight_of x.rows))) (λ view. view_with view (after_append view.collection x.rows x.lower x.upper (weight_of x.rows))) p.0
-    (subst (λ (e : SessionFault). Goes a d (λ list start es now. Failed e start es now)) (sym p.2) c.in_err-answer.ensures.told))
+    (subst (λ (e : SessionFault). Goes own_shard a d (λ list start es now. Failed e start es now)) (sym p.2) c.in_err-answer.ensures.told))
 
 pub returns-clause-told : goal.returns-clause-told
 returns-clause-told g c =
@@ -27,8 +30,9 @@ returns-clause-told g c =
     let d = g.S.Store.history c.drive_writer.new.port.store in
     let x = c.args.append in
     let begun = append_begun a c.args.self.now.writer c.begin_append.new.self x.rows x.lower x.upper c.requires.ready.writer c.in_ok-begin_append.ensures.begins.1 in
-    subst (λ (r : Result RunReply SessionFault). Goes a d (AnswersAppendOf (number_of c.args.self.now.reader) x.rows x.lower x.upper r)) (sym c.reply_written.ensures)
-    (appends a d c.begin_append.new.self (number_of c.args.self.now.reader) x.rows x.lower x.upper c.in_ok-answer.answer begun.appending c.in_ok-answer.ensures.told)
+    subst (λ (r : Result RunReply SessionFault). Goes own_shard a d (AnswersAppendOf (number_of c.args.self.now.reader) x.rows x.lower x.upper r)) (sym c.reply_written.ensures)
+    (appends a d begun.number begun.token begun.parts begun.count begun.weight (number_of c.args.self.now.reader) x.rows x.lower x.upper c.in_ok-answer.answer
+    (subst (λ (k : Kept). Goes own_shard a d (Answered machine 0 k c.in_ok-answer.answer)) begun.kept c.in_ok-answer.ensures.told))
 
 pub returns-clause-ready : goal.returns-clause-ready
 returns-clause-ready g c =

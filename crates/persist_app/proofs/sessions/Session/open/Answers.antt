@@ -3,7 +3,8 @@ use Rattle.std.proofs.lemmas.Result.{err_from_is_err_and}
 use Rattle.persist_app.specs.declared.session_faults.SessionFault.{SessionFault}
 use Rattle.persist_app.specs.Answering.{OpensWriter}
 use Rattle.persist_app.specs.Drives.{Failed}
-use Rattle.persist_app.specs.Goings.{Goes}
+use Rattle.driving.specs.Goings.{Goes}
+use Rattle.persist_app.specs.Sessions.{own_shard}
 use Rattle.persist_app.proofs.ReplyLaws.{failed_more, opens_both, ready_both}
 use Rattle.persist_app.proofs.sessions.Session.open.Goals as goal
 
@@ -12,7 +13,7 @@ returns-in_err-writer-clause-told g c =
     let a = g.S.Store.history c.args.port.now.store in
     let b = g.S.Store.history c.open_writer.new.port.store in
     let p = err_from_is_err_and c.from_residual.result c.from_residual.ensures.1 in
-    rw p.1 (subst (λ (e : SessionFault). Goes a b (λ list start es now. Failed e start es now)) (sym p.2) c.in_err-writer.ensures.told)
+    rw p.1 (subst (λ (e : SessionFault). Goes own_shard a b (λ list start es now. Failed e start es now)) (sym p.2) c.in_err-writer.ensures.told)
 
 pub returns-in_err-reader-clause-told : goal.returns-in_err-reader-clause-told
 returns-in_err-reader-clause-told g c =
@@ -20,7 +21,7 @@ returns-in_err-reader-clause-told g c =
     let b = g.S.Store.history c.open_writer.new.port.store in
     let d = g.S.Store.history c.open_reader.new.port.store in
     let p = err_from_is_err_and c.from_residual-in_err-reader.result c.from_residual-in_err-reader.ensures.1 in
-    rw p.1 (failed_more a b d (OpensWriter (Ok c.in_ok-writer.writer)) p.0 c.in_ok-writer.ensures.told (subst (λ (e : SessionFault). Goes b d (λ list start es now. Failed e start es now)) (sym p.2) c.in_err-reader.ensures.told))
+    rw p.1 (failed_more a b d (OpensWriter (Ok c.in_ok-writer.writer)) p.0 c.in_ok-writer.ensures.told (subst (λ (e : SessionFault). Goes own_shard b d (λ list start es now. Failed e start es now)) (sym p.2) c.in_err-reader.ensures.told))
 
 pub returns-clause-told : goal.returns-clause-told
 returns-clause-told g c =
