@@ -1,6 +1,6 @@
 -- The calls of a command of a run, which nobody else calls between. Entries go newest first.
 use Rattle.std.proofs.Common.{◌≡◌, ℕ, suc, ◌+◌, inl, inr, List, [], ◌∷◌, ◌++◌, length, refl, sym, ap, subst, ◌∙◌, append_assoc, arith}
-use Rattle.std.specs.Prelude.{Ok, Err, Option, Result}
+use Rattle.std.specs.Prelude.{Ok, Err, Option}
 use Rattle.std.specs.List.{AllByRecursion}
 use Rattle.update_core.specs.declared.updates.Update.{Update}
 use Rattle.store_core.specs.declared.shards.ShardId.{ShardId}
@@ -17,7 +17,7 @@ use Rattle.history_core.proofs.Entries.{lawful_older}
 use Rattle.machine_core.specs.Machines.{Words}
 use Rattle.driving.specs.declared.drive_faults.DriveFault.{DriveFault}
 use Rattle.driving.specs.declared.drive_faults.DriveFault.TheVariants as drives
-use Rattle.driving.specs.Drives.{Answered, BeginAtMost, Drove, Going, MayBegin, Scanned}
+use Rattle.driving.specs.Drives.{BeginAtMost, Drove, Going, MayBegin, Scanned}
 use Rattle.driving.specs.Goings.{Goes}
 use Rattle.driving.proofs.GoingLaws.{Between}
 use Rattle.persist_app.specs.declared.session_faults.SessionFault.{SessionFault}
@@ -39,21 +39,24 @@ pub record Unmoved (client : ℕ) (list : List Update) (start : Stored) (es now 
 
 module _ (client : ℕ) (list : List Update) (start : Stored) (st : StandsFor start own_shard list) (es : List Entry) where
   next_unmoved : (mid : List Entry) (e : Entry) (calls : ℕ) → LawfulBack start (e ∷ mid) → e.client ≡ client →
-      MayBegin own_shard e.call (reply (replay_back start mid) e) → Unmoved client list start es mid calls → Unmoved client list start es (e ∷ mid) (calls + 1)
+      MayBegin own_shard e.call (reply (replay_back start mid) e) → Unmoved client list start es mid calls →
+      Unmoved client list start es (e ∷ mid) (calls + 1)
   next_unmoved mid e calls l own effect s = record {
     starts = λ view at. more_starts own_shard list start st e mid l view (s.starts view at) effect;
     accepts = more_keeps own_shard list start st e mid l effect ∙ s.accepts;
     quiet = λ n t last. still n t last effect;
   }
     where
-      still : (n : ℕ) (t : ShardState) → LastIs (replay_back start es) own_shard n t → MayBegin own_shard e.call (reply (replay_back start mid) e) →
+      still : (n : ℕ) (t : ShardState) → LastIs (replay_back start es) own_shard n t →
+          MayBegin own_shard e.call (reply (replay_back start mid) e) →
           QuietSince own_shard client start es (e ∷ mid) (calls + 1)
       still n t last (inl none) = quiet_none own_shard start client es mid calls e (s.quiet n t last) own none
       still n t last (inr first) =
           absurd (first_never own_shard list start st e mid l n t
           ((quiet_stays own_shard list start client es mid calls (s.quiet n t last)).last n t last) first)
 
-  all_unmoved : (more : List Entry) → LawfulBack start (more ++ es) → AllByRecursion (λ e. e.client ≡ client) more → BeginAtMost own_shard start more es →
+  all_unmoved : (more : List Entry) → LawfulBack start (more ++ es) → AllByRecursion (λ e. e.client ≡ client) more →
+      BeginAtMost own_shard start more es →
       Unmoved client list start es (more ++ es) (length more)
   all_unmoved [] l own begin = record { starts = λ view at. at; accepts = refl; quiet = λ n t last. quiet_start own_shard client start es }
   all_unmoved (e ∷ more) l own begin =
@@ -68,7 +71,8 @@ lawful_last list start es now before e b split = subst (LawfulBack start) split 
 
 -- what the entries of a command before its last one leave as it was
 pub unmoved : (client : ℕ) (list : List Update) (start : Stored) (es now before : List Entry) (e : Entry) (calls : ℕ) →
-    Between own_shard list start es now → now ≡ e ∷ before → Going own_shard client start es before calls → Unmoved client list start es before calls
+    Between own_shard list start es now → now ≡ e ∷ before → Going own_shard client start es before calls →
+    Unmoved client list start es before calls
 unmoved client list start es now before e calls b split g =
     let older = lawful_older start e before (lawful_last list start es now before e b split) in
     subst (λ (fs : List Entry). Unmoved client list start es fs calls) (sym g.split)
@@ -92,7 +96,8 @@ scanned_before P list start es mid now b s = record {
 -- ---- what a drive says, as a session says it
 
 module _ {M A : Type 0} (W : Words M A) (client : ℕ) (k : W.Kept) (own : W.shard k ≡ own_shard) (a d : Option History) where
-  pub drive_answers : (answer : A) → Goes (W.shard k) a d (Drove W client k (Ok answer)) → Goes own_shard a d (Driven W client k (Ok answer))
+  pub drive_answers : (answer : A) → Goes (W.shard k) a d (Drove W client k (Ok answer)) →
+      Goes own_shard a d (Driven W client k (Ok answer))
   drive_answers answer went = subst (λ (s : ShardId). Goes s a d (Drove W client k (Ok answer))) own went
 
   -- a fault, by its own name

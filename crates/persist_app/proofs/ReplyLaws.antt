@@ -7,7 +7,7 @@ use Rattle.store_core.specs.Stores.{Stored}
 use Rattle.store_core.specs.Histories.{History}
 use Rattle.state_core.specs.declared.transitions.Transition.{Transition}
 use Rattle.store_core.specs.declared.part_keys.PartKey.{PartKey}
-use Rattle.state_core.specs.declared.transitions.Transition.TheVariants.{Leave}
+use Rattle.state_core.specs.declared.transitions.Transition.TheVariants.{Append, Leave}
 use Rattle.history_core.specs.declared.asked.Asked.TheVariants as asks
 use Rattle.state_core.specs.VersionReading.{most}
 use Rattle.write_client.specs.Drafting.{counted_weight}
@@ -46,25 +46,30 @@ use Rattle.persist_app.proofs.SessionLaws.{read_keeps, reading, waits, write_kee
 -- ---- faults
 
 -- a fault is no reply
-pub failed_replies : (a d : Option History) (reader : ℕ) (wanted : View → RunReply) (after : View → View) (fault : SessionFault) → Goes own_shard a d (λ list start es now. Failed fault start es now) → Goes own_shard a d (Replies reader wanted after (Err fault))
-failed_replies a d reader wanted after faults.Damaged went = going_so own_shard a d (λ list start es now. ⊥) (Replies reader wanted after (Err faults.Damaged)) went (λ list start es now b x. absurd x)
+pub failed_replies : (a d : Option History) (reader : ℕ) (wanted : View → RunReply) (after : View → View) (fault : SessionFault) →
+    Goes own_shard a d (λ list start es now. Failed fault start es now) → Goes own_shard a d (Replies reader wanted after (Err fault))
+failed_replies a d reader wanted after faults.Damaged went = going_so own_shard a d (λ list start es now. ⊥)
+    (Replies reader wanted after (Err faults.Damaged)) went (λ list start es now b x. absurd x)
 failed_replies a d reader wanted after faults.Memory went = went
 failed_replies a d reader wanted after faults.Store went = went
 failed_replies a d reader wanted after faults.MembersFull went = went
 failed_replies a d reader wanted after faults.Spent went = went
 
 -- a fault after earlier entries
-failed_later : (fault : SessionFault) (list : List Update) (start : Stored) (es mid now : List Entry) → Between own_shard list start es mid → Failed fault start mid now → Failed fault start es now
+failed_later : (fault : SessionFault) (list : List Update) (start : Stored) (es mid now : List Entry) →
+    Between own_shard list start es mid → Failed fault start mid now → Failed fault start es now
 failed_later faults.Memory list start es mid now b h = tt
 failed_later faults.Store list start es mid now b h = tt
 failed_later faults.Damaged list start es mid now b h = h
 failed_later faults.MembersFull list start es mid now b h = scanned_before (λ n s. length s.members ≡ 256) list start es mid now b h
 failed_later faults.Spent list start es mid now b h = scanned_before (λ n s. n ≡ most) list start es mid now b h
 
-pub failed_more : (a b d : Option History) (first : List Update → Stored → List Entry → List Entry → Type 0) (fault : SessionFault) → Goes own_shard a b first → Goes own_shard b d (λ list start es now. Failed fault start es now) →
+pub failed_more : (a b d : Option History) (first : List Update → Stored → List Entry → List Entry → Type 0) (fault : SessionFault) →
+    Goes own_shard a b first → Goes own_shard b d (λ list start es now. Failed fault start es now) →
     Goes own_shard a d (λ list start es now. Failed fault start es now)
 failed_more a b d first fault x y =
-    more_going own_shard a b d first (λ list start es now. Failed fault start es now) (λ list start es now. Failed fault start es now) x y (λ list start es mid now b1 b2 f h. failed_later fault list start es mid now b1 h)
+    more_going own_shard a b d first (λ list start es now. Failed fault start es now) (λ list start es now. Failed fault start es now) x y
+    (λ list start es mid now b1 b2 f h. failed_later fault list start es mid now b1 h)
 
 -- where there is a reply
 pub on_reply : {A E : Type 0} → (r : Result A E) (P : Type 0) → ((x : A) → r ≡ Ok x → P) → OnOk r P
@@ -116,28 +121,33 @@ read_begun front old new asked listen ready is =
 pub change_begun : (front : Option History) (old new : Reader) (asked : Asked) (step : ℕ → Transition) → ReaderReady front old →
     reader_beginning.Changing old asked step new → (b : Begun old new old.listen asked) × (new.trying.step ≡ step b.number)
 change_begun front old new asked step ready (n, has, is) =
-    subst (λ (r : Reader). (b : Begun old r old.listen asked) × (r.trying.step ≡ step b.number)) (sym is)
-    (record {
-      number = n;
-      had = has;
-      kept = λ i. record { asked = Some asked; member = has i; listen = old.listen; shard = ready.shard i; step = step n };
-    }, refl)
+    subst (λ (r : Reader). (b : Begun old r old.listen asked) × (r.trying.step ≡ step b.number)) (sym is) (
+      record {
+        number = n;
+        had = has;
+        kept = λ i. record { asked = Some asked; member = has i; listen = old.listen; shard = ready.shard i; step = step n };
+      },
+      refl,
+    )
 
 -- what its command has come to, of the member's number
-pub asked_told : (a d : Option History) (old new : Reader) (listen : Option (Option ℕ)) (asked : Asked) (step : Transition) (answer : ReadAnswer) →
+pub asked_told : (a d : Option History) (old new : Reader) (listen : Option (Option ℕ)) (asked : Asked) (step : Transition)
+    (answer : ReadAnswer) →
     (b : Begun old new listen asked) → new.trying.step ≡ step → Goes own_shard a d (Driven read.machine 1 (read.kept new) (Ok answer)) →
     Goes own_shard a d (Answered read.machine 1 (reading b.number listen step asked) answer)
 asked_told a d old new listen asked step answer b is went =
     subst (λ (k : read.Kept). Goes own_shard a d (Answered read.machine 1 k answer))
     (b.kept ∙ ap (λ (t : Transition). reading b.number listen t asked) is) went
 
-pub member_read : (old begun new : Reader) (listen : Option (Option ℕ)) (asked : Asked) (answer : ReadAnswer) (reply : RunReply) → Begun old begun listen asked →
+pub member_read : (old begun new : Reader) (listen : Option (Option ℕ)) (asked : Asked) (answer : ReadAnswer) (reply : RunReply) →
+    Begun old begun listen asked →
     read.Ended (read.kept begun) answer new → read_reply answer ≡ Ok reply → new.member ≡ old.member
 member_read old begun new listen asked answer reply b over is =
     over.member ∙ read_keeps begun.member answer reply is ∙ ap (λ (k : read.Kept). k.member) b.kept ∙ sym b.had
 
 -- a session after a reader's command that was answered with a reply
-pub ready_read : (a d : Option History) (writer : Writer) (old begun new : Reader) (listen : Option (Option ℕ)) (asked : Asked) (answer : ReadAnswer)
+pub ready_read : (a d : Option History) (writer : Writer) (old begun new : Reader) (listen : Option (Option ℕ)) (asked : Asked)
+    (answer : ReadAnswer)
     (reply : RunReply) → Ready a (record { writer = writer; reader = old }) → Begun old begun listen asked → GrowsBy 1 a d →
     read.Ended (read.kept begun) answer new → readers.IsSound new → reader_following.FollowsWhere 1 d new → read_reply answer ≡ Ok reply →
     Ready d (record { writer = writer; reader = new })
@@ -153,9 +163,11 @@ ready_read a d writer old begun new listen asked answer reply ready b by over so
 }
 
 -- a reply of a reader's command
-pub read_told : (a d : Option History) (old begun : Reader) (listen : Option (Option ℕ)) (asked : Asked) (wanted : View → RunReply) (after : View → View)
+pub read_told : (a d : Option History) (old begun : Reader) (listen : Option (Option ℕ)) (asked : Asked) (wanted : View → RunReply)
+    (after : View → View)
     (answer : ReadAnswer) (result : Result RunReply SessionFault) → (b : Begun old begun listen asked) → result ≡ read_reply answer →
-    Goes own_shard a d (Replies b.number wanted after (read_reply answer)) → Goes own_shard a d (Replies (number_of old) wanted after result)
+    Goes own_shard a d (Replies b.number wanted after (read_reply answer)) →
+    Goes own_shard a d (Replies (number_of old) wanted after result)
 read_told a d old begun listen asked wanted after answer result b is went =
     let number : b.number ≡ number_of old = ap (λ (m : Option ℕ). unwrap_or m 0) (sym b.had) in
     subst (λ (r : Result RunReply SessionFault). Goes own_shard a d (Replies (number_of old) wanted after r)) (sym is)
@@ -204,8 +216,10 @@ append_begun front old new rows lower upper ready k =
     })
 
 pub ready_written : (a d : Option History) (old begun new : Writer) (reader : Reader) (rows : List Update) (lower : ℕ) (upper : Option ℕ)
-    (answer : WriteAnswer) (reply : RunReply) → Ready a (record { writer = old; reader = reader }) → BegunAppend old begun rows lower upper → GrowsBy 0 a d →
-    write.Ended (write.kept begun) answer new → writers.IsSound new → writer_following.FollowsWhere 0 d new → write_reply answer ≡ Ok reply →
+    (answer : WriteAnswer) (reply : RunReply) → Ready a (record { writer = old; reader = reader }) →
+    BegunAppend old begun rows lower upper → GrowsBy 0 a d →
+    write.Ended (write.kept begun) answer new → writers.IsSound new → writer_following.FollowsWhere 0 d new →
+    write_reply answer ≡ Ok reply →
     Ready d (record { writer = new; reader = reader })
 ready_written a d old begun new reader rows lower upper answer reply ready b by over sound follows is = record {
   writer = record {
@@ -223,16 +237,21 @@ ready_written a d old begun new reader rows lower upper answer reply ready b by 
 -- ---- both
 
 -- both have left
-pub closes : (a b d : Option History) (result : Result Unit SessionFault) → Goes own_shard a b (Closed (Ok tt)) → Goes own_shard b d (Closed result) → Goes own_shard a d (Closed result)
-closes a b d (Ok done) x y = more_going own_shard a b d (Closed (Ok tt)) (Closed (Ok done)) (Closed (Ok done)) x y (λ list start es mid now b1 b2 f s. s ∙ f)
+pub closes : (a b d : Option History) (result : Result Unit SessionFault) → Goes own_shard a b (Closed (Ok tt)) →
+    Goes own_shard b d (Closed result) → Goes own_shard a d (Closed result)
+closes a b d (Ok done) x y = more_going own_shard a b d (Closed (Ok tt)) (Closed (Ok done)) (Closed (Ok done)) x y
+    (λ list start es mid now b1 b2 f s. s ∙ f)
 closes a b d (Err fault) x y = failed_more a b d (Closed (Ok tt)) fault x y
 
 -- both have joined
-pub opens_both : (a b d : Option History) (writer : Writer) (reader : Reader) → Goes own_shard a b (OpensWriter (Ok writer)) → Goes own_shard b d (OpensReader (Ok reader)) → Goes own_shard a d (Opens (Ok (record { writer = writer; reader = reader })))
+pub opens_both : (a b d : Option History) (writer : Writer) (reader : Reader) → Goes own_shard a b (OpensWriter (Ok writer)) →
+    Goes own_shard b d (OpensReader (Ok reader)) → Goes own_shard a d (Opens (Ok (record { writer = writer; reader = reader })))
 opens_both a b d writer reader x y =
-    more_going own_shard a b d (OpensWriter (Ok writer)) (OpensReader (Ok reader)) (Opens (Ok (record { writer = writer; reader = reader }))) x y (λ list start es mid now b1 b2 f s. λ view at. s view (f view at))
+    more_going own_shard a b d (OpensWriter (Ok writer)) (OpensReader (Ok reader))
+    (Opens (Ok (record { writer = writer; reader = reader }))) x y (λ list start es mid now b1 b2 f s. λ view at. s view (f view at))
 
-pub ready_both : (a d : Option History) (writer : Writer) (reader : Reader) → GrowsBy 1 a d → WriterReady a writer → ReaderReady d reader → Ready d (record { writer = writer; reader = reader })
+pub ready_both : (a d : Option History) (writer : Writer) (reader : Reader) → GrowsBy 1 a d → WriterReady a writer → ReaderReady d reader →
+    Ready d (record { writer = writer; reader = reader })
 ready_both a d writer reader by w r = record {
   writer = writer_waits a d writer by w;
   reader = r;
@@ -241,12 +260,18 @@ ready_both a d writer reader by w r = record {
 -- ---- an append in range
 
 -- what is asked of an append in range is what the collection answers
-pub in_range_told : (a d : Option History) (reader : ℕ) (x : FeedAppend) (result : Result RunReply SessionFault) → covers x.upper x.lower ≡ true → position (is_outside x) x.rows ≡ None →
-    Goes own_shard a d (Replies reader (λ view. append_text (append_answer view.collection x.lower (weight_of x.rows))) (λ view. view_with view (after_append view.collection x.rows x.lower x.upper (weight_of x.rows))) result) →
-    Goes own_shard a d (Replies reader (λ view. append_reply view.collection x) (λ view. view_with view (collection_after view.collection x)) result)
+pub in_range_told : (a d : Option History) (reader : ℕ) (x : FeedAppend) (result : Result RunReply SessionFault) →
+    covers x.upper x.lower ≡ true → position (is_outside x) x.rows ≡ None →
+    Goes own_shard a d (Replies reader (λ view. append_text (append_answer view.collection x.lower (weight_of x.rows)))
+    (λ view. view_with view (after_append view.collection x.rows x.lower x.upper (weight_of x.rows))) result) →
+    Goes own_shard a d (Replies reader (λ view. append_reply view.collection x)
+    (λ view. view_with view (collection_after view.collection x)) result)
 in_range_told a d reader x result forward within went =
-    subst (λ (after : View → View). Goes own_shard a d (Replies reader (λ view. append_reply view.collection x) after result)) (λ i view. view_with view (moved view i))
-    (subst (λ (wanted : View → RunReply). Goes own_shard a d (Replies reader wanted (λ view. view_with view (after_append view.collection x.rows x.lower x.upper (weight_of x.rows))) result)) (λ i view. replied view i) went)
+    subst (λ (after : View → View). Goes own_shard a d (Replies reader (λ view. append_reply view.collection x) after result))
+    (λ i view. view_with view (moved view i))
+    (subst (λ (wanted : View → RunReply). Goes own_shard a d (Replies reader wanted
+    (λ view. view_with view (after_append view.collection x.rows x.lower x.upper (weight_of x.rows))) result))
+    (λ i view. replied view i) went)
   where
     replied : (view : View) → append_text (append_answer view.collection x.lower (weight_of x.rows)) ≡ append_reply view.collection x
     replied view = rw (forward, within) refl

@@ -23,7 +23,7 @@ use Rattle.history_core.specs.declared.write_answers.WriteAnswer.{WriteAnswer}
 use Rattle.history_core.specs.declared.write_answers.WriteAnswer.TheVariants as writes
 use Rattle.history_core.specs.declared.read_answers.ReadAnswer.{ReadAnswer}
 use Rattle.history_core.specs.declared.read_answers.ReadAnswer.TheVariants as reads
-use Rattle.history_core.specs.Legal.{Absent, AcceptedAt, AnswersAppend, Full, HasSince, Listens, Snapshots}
+use Rattle.history_core.specs.Legal.{Absent, AcceptedAt, AnswersAppend, Full, Listens, Snapshots}
 use Rattle.history_core.specs.Placing.{AtLastScan, Commits, OnlyOne, places}
 use Rattle.history_core.specs.Stands.{accepted}
 use Rattle.load_core.specs.Effects.{CommitsNone, IsShown}
@@ -65,7 +65,8 @@ grows_for client other apart (Some h) b (k, k_is, more, start_is, trail_is, own)
     (more, others_alone client other apart more own, k_is ∙ ap (λ (q : History). Some q) same)
 
 -- what is known of a machine goes on where entries of another client alone have come
-pub waits : {M A : Type 0} → (W : Words M A) → Keeps W → (client other : ℕ) → client ≢ other → (m : M) (a b : Option History) → GrowsBy other a b →
+pub waits : {M A : Type 0} → (W : Words M A) → Keeps W → (client other : ℕ) → client ≢ other → (m : M) (a b : Option History) →
+    GrowsBy other a b →
     FollowsWhere W client a m → FollowsWhere W client b m
 waits {M = M} {A = A} W keeps client other apart m a b grows follows =
     others_where M A W keeps client a b m follows (grows_for client other apart a b grows)
@@ -75,10 +76,12 @@ waits {M = M} {A = A} W keeps client other apart m a b grows follows =
 -- a command whose entries all were quiet
 all_quiet : (client : ℕ) (list : List Update) (start : Stored) (es now before : List Entry) (e : Entry) (calls reader : ℕ) (view : View) →
     Between own_shard list start es now → Going own_shard client start es before calls → e.client ≡ client → now ≡ e ∷ before →
-    CommitsNone (reply (replay_back start before) e) → ViewAt own_shard list start es reader view → QuietSince own_shard client start es now (calls + 1)
+    CommitsNone (reply (replay_back start before) e) → ViewAt own_shard list start es reader view →
+    QuietSince own_shard client start es now (calls + 1)
 all_quiet client list start es now before e calls reader view b g own split none v =
     subst (λ (fs : List Entry). QuietSince own_shard client start es fs (calls + 1)) (sym split)
-    (quiet_none own_shard start client es before calls e ((unmoved client list start es now before e calls b split g).quiet v.number v.state v.last) own none)
+    (quiet_none own_shard start client es before calls e
+    ((unmoved client list start es now before e calls b split g).quiet v.number v.state v.last) own none)
 
 -- what holds of an answered Scan may be said otherwise
 scanned_so : (P Q : ℕ → ShardState → Type 0) (start : Stored) (es now : List Entry) → ((n : ℕ) (s : ShardState) → P n s → Q n s) →
@@ -92,7 +95,8 @@ scanned_so P Q start es now go s = record {
   last = (s.last.0, s.last.1, s.last.2, go s.last.0 s.last.1 s.last.3);
 }
 
-full : (client : ℕ) (start : Stored) (es now before : List Entry) (e : Entry) (calls version : ℕ) → Going own_shard client start es before calls →
+full : (client : ℕ) (start : Stored) (es now before : List Entry) (e : Entry) (calls version : ℕ) →
+    Going own_shard client start es before calls →
     e.client ≡ client → now ≡ e ∷ before → IsShown own_shard e.call (reply (replay_back start before) e) →
     Full start own_shard version (places client (calls + 1) now) → ScannedFull start es now
 full client start es now before e calls version g own split shown h =
@@ -104,10 +108,12 @@ full client start es now before e calls version g own split shown h =
 
 -- ---- opening
 
-pub opens_writer : (a d : Option History) (answer : WriteAnswer) → Goes own_shard a d (Answered write.machine 0 (write.kept (writers.opened own_shard)) answer) →
+pub opens_writer : (a d : Option History) (answer : WriteAnswer) →
+    Goes own_shard a d (Answered write.machine 0 (write.kept (writers.opened own_shard)) answer) →
     Goes own_shard a d (OpensWriter {A = Unit {0}} (writer_let_in answer))
 opens_writer a d answer went =
-    going_so own_shard a d (Wrote answer) (OpensWriter {A = Unit {0}} (writer_let_in answer)) went (λ list start es now b x. go answer list start es now b x)
+    going_so own_shard a d (Wrote answer) (OpensWriter {A = Unit {0}} (writer_let_in answer)) went
+    (λ list start es now b x. go answer list start es now b x)
   where
     Wrote : WriteAnswer → List Update → Stored → List Entry → List Entry → Type 0
     Wrote answer list start es now = Answered write.machine 0 (write.kept (writers.opened own_shard)) answer list start es now
@@ -118,7 +124,8 @@ opens_writer a d answer went =
         λ view at. subst (λ (fs : List Entry). StartsAt own_shard list start fs view) (sym x.split)
         (writer_joins own_shard list start b.stands x.entry x.before (lawful_last list start es now x.before x.entry b x.split) view
         ((unmoved 0 list start es now x.before x.entry x.calls b x.split x.going).starts view at) x.effect.effect.0)
-    go (writes.MembersFull version) list start es now b x = full 0 start es now x.before x.entry x.calls version x.going x.own x.split (x.effect.shown tt) x.legal
+    go (writes.MembersFull version) list start es now b x = full 0 start es now x.before x.entry x.calls version x.going x.own x.split
+        (x.effect.shown tt) x.legal
     go writes.Ok list start es now b x = absurd x.legal
     go (writes.Mismatch current) list start es now b x = absurd x.legal
     go (writes.Heavy weight) list start es now b x = absurd x.legal
@@ -129,10 +136,13 @@ abbrev pub JoinsReader : Result Unit SessionFault → Reader → List Update →
 JoinsReader (Ok done) r list start es now = OpensReader (Ok r) list start es now
 JoinsReader (Err fault) r list start es now = Failed fault start es now
 
-pub opens_reader : (a d : Option History) (moment lease : ℕ) (r : Reader) (answer : ReadAnswer) → r.member ≡ readers.member_after None answer →
-    Goes own_shard a d (Answered read.machine 1 (read.kept (readers.opened own_shard moment lease)) answer) → Goes own_shard a d (JoinsReader (reader_let_in answer) r)
+pub opens_reader : (a d : Option History) (moment lease : ℕ) (r : Reader) (answer : ReadAnswer) →
+    r.member ≡ readers.member_after None answer →
+    Goes own_shard a d (Answered read.machine 1 (read.kept (readers.opened own_shard moment lease)) answer) →
+    Goes own_shard a d (JoinsReader (reader_let_in answer) r)
 opens_reader a d moment lease r answer member went =
-    going_so own_shard a d (Read answer) (JoinsReader (reader_let_in answer) r) went (λ list start es now b x. go answer member list start es now b x)
+    going_so own_shard a d (Read answer) (JoinsReader (reader_let_in answer) r) went
+    (λ list start es now b x. go answer member list start es now b x)
   where
     Read : ReadAnswer → List Update → Stored → List Entry → List Entry → Type 0
     Read answer list start es now = Answered read.machine 1 (read.kept (readers.opened own_shard moment lease)) answer list start es now
@@ -142,9 +152,11 @@ opens_reader a d moment lease r answer member went =
     go (reads.Opened member version since) is list start es now b x =
         λ view at. subst (λ (m : Option ℕ). ViewAt own_shard list start now (unwrap_or m 0) view) (sym is)
         (subst (λ (fs : List Entry). ViewAt own_shard list start fs member view) (sym x.split)
-        (reader_joins own_shard list start b.stands x.entry x.before (lawful_last list start es now x.before x.entry b x.split) view moment lease member
+        (reader_joins own_shard list start b.stands x.entry x.before
+        (lawful_last list start es now x.before x.entry b x.split) view moment lease member
         ((unmoved 1 list start es now x.before x.entry x.calls b x.split x.going).starts view at) x.effect.effect.0 x.effect.effect.1))
-    go (reads.MembersFull version) is list start es now b x = full 1 start es now x.before x.entry x.calls version x.going x.own x.split (x.effect.shown tt) x.legal.0
+    go (reads.MembersFull version) is list start es now b x = full 1 start es now x.before x.entry x.calls version x.going x.own x.split
+        (x.effect.shown tt) x.legal.0
     go (reads.Rows rows) is list start es now b x = absurd x.legal.0
     go (reads.Early since) is list start es now b x = absurd x.legal.0
     go (reads.Late upper) is list start es now b x = absurd x.legal.0
@@ -160,53 +172,74 @@ opens_reader a d moment lease r answer member went =
 -- ---- appends
 
 -- an append that is answered is answered as the view's collection answers it
-abbrev pub AnswersAppendOf : ℕ → List Update → ℕ → Option ℕ → Result RunReply SessionFault → List Update → Stored → List Entry → List Entry → Type 0
+abbrev pub AnswersAppendOf : ℕ → List Update → ℕ → Option ℕ → Result RunReply SessionFault → List Update → Stored → List Entry →
+    List Entry → Type 0
 AnswersAppendOf reader rows lower upper result list start es now =
-    Replies reader (λ view. append_text (append_answer view.collection lower (weight_of rows))) (λ view. view_with view (after_append view.collection rows lower upper (weight_of rows))) result list start es now
+    Replies reader (λ view. append_text (append_answer view.collection lower (weight_of rows)))
+    (λ view. view_with view (after_append view.collection rows lower upper (weight_of rows))) result list start es now
 
 -- a member's command of the run's writer, under the last token
 abbrev pub writing : ℕ → ℕ → Transition → Asked → write.Kept
-writing number token step asked = record { asked = Some asked; member = Some number; token = token; shard = own_shard; step = step }
+writing number token tried asked = record { asked = Some asked; member = Some number; token = token; shard = own_shard; step = tried }
 
-pub appends : (a d : Option History) (number token : ℕ) (parts : List PartKey) (count weight reader : ℕ) (rows : List Update) (lower : ℕ) (upper : Option ℕ) (answer : WriteAnswer) →
-    Goes own_shard a d (Answered write.machine 0 (writing number token (Append number token lower upper parts count weight) (asks.Append rows lower upper)) answer) →
+pub appends : (a d : Option History) (number token : ℕ) (parts : List PartKey) (count weight reader : ℕ) (rows : List Update) (lower : ℕ)
+    (upper : Option ℕ) (answer : WriteAnswer) →
+    Goes own_shard a d (Answered write.machine 0 (writing number token (Append number token lower upper parts count weight)
+    (asks.Append rows lower upper)) answer) →
     Goes own_shard a d (AnswersAppendOf reader rows lower upper (write_reply answer))
 appends a d number token parts count weight reader rows lower upper answer went =
-    going_so own_shard a d (Wrote answer) (AnswersAppendOf reader rows lower upper (write_reply answer)) went (λ list start es now b x. go answer list start es now b x)
+    going_so own_shard a d (Wrote answer) (AnswersAppendOf reader rows lower upper (write_reply answer)) went
+    (λ list start es now b x. go answer list start es now b x)
   where
     Wrote : WriteAnswer → List Update → Stored → List Entry → List Entry → Type 0
     Wrote answer list start es now =
-        Answered write.machine 0 (writing number token (Append number token lower upper parts count weight) (asks.Append rows lower upper)) answer list start es now
+        Answered write.machine 0 (writing number token (Append number token lower upper parts count weight)
+        (asks.Append rows lower upper)) answer list start es now
 
     after_accepted : (view : View) → append_answer view.collection lower (weight_of rows) ≡ append_accepted →
-        view_with view (extended view.collection rows upper (weight_of rows)) ≡ view_with view (after_append view.collection rows lower upper (weight_of rows))
+        view_with view (extended view.collection rows upper (weight_of rows)) ≡ view_with view
+        (after_append view.collection rows lower upper (weight_of rows))
     after_accepted view is = ap (λ (x : AppendAnswer). view_with view (after_answer x view.collection rows upper (weight_of rows))) (sym is)
 
-    refused : (x : AppendAnswer) (list : List Update) (start : Stored) (es now before : List Entry) (e : Entry) (calls : ℕ) → Between own_shard list start es now →
+    refused : (x : AppendAnswer) (list : List Update) (start : Stored) (es now before : List Entry) (e : Entry) (calls : ℕ) →
+        Between own_shard list start es now →
         Going own_shard 0 start es before calls → e.client ≡ 0 → now ≡ e ∷ before →
-        CommitsNone (reply (replay_back start before) e) → AtLastScan own_shard (AnswersAppend list start own_shard rows lower x) (places 0 (calls + 1) now) →
-        ((view : View) → view_with view (after_answer x view.collection rows upper (weight_of rows)) ≡ view) → (view : View) → ViewAt own_shard list start es reader view →
+        CommitsNone (reply (replay_back start before) e) → AtLastScan own_shard (AnswersAppend list start own_shard rows lower x)
+        (places 0 (calls + 1) now) →
+        ((view : View) → view_with view (after_answer x view.collection rows upper (weight_of rows)) ≡ view) → (view : View) →
+        ViewAt own_shard list start es reader view →
         (append_text x ≡ append_text (append_answer view.collection lower (weight_of rows))) ×
         ViewAt own_shard list start now reader (view_with view (after_append view.collection rows lower upper (weight_of rows)))
     refused x list start es now before e calls b g own split none scan same view v =
         let q = all_quiet 0 list start es now before e calls reader view b g own split none v in
         let is = scan_append own_shard list start 0 es now (calls + 1) reader view q v rows lower x scan in
         let there : view_with view (after_append view.collection rows lower upper (weight_of rows)) ≡ view =
-        ap (λ (y : AppendAnswer). view_with view (after_answer y view.collection rows upper (weight_of rows))) is ∙ same view in
-        (sym (ap append_text is), subst (λ (z : View). ViewAt own_shard list start now reader z) (sym there) (quiet_view own_shard list start 0 es now (calls + 1) reader view q v))
+        ap (λ (y : AppendAnswer). view_with view (after_answer y view.collection rows upper (weight_of rows))) is ∙ same view in (
+          sym (ap append_text is),
+          subst (λ (z : View). ViewAt own_shard list start now reader z) (sym there)
+              (quiet_view own_shard list start 0 es now (calls + 1) reader view q v),
+        )
 
-    go : (answer : WriteAnswer) (list : List Update) (start : Stored) (es now : List Entry) → Between own_shard list start es now → Wrote answer list start es now →
+    go : (answer : WriteAnswer) (list : List Update) (start : Stored) (es now : List Entry) → Between own_shard list start es now →
+        Wrote answer list start es now →
         AnswersAppendOf reader rows lower upper (write_reply answer) list start es now
     go writes.Ok list start es now b x = λ view v.
-        let only = subst (λ (fs : List Entry). OnlyOne (Commits start own_shard) (AcceptedAt list start own_shard rows lower upper) (places 0 (x.calls + 1) fs)) x.split x.legal in
-        let ok = append_ok own_shard list start 0 es x.before x.calls x.entry b.stands (lawful_last list start es now x.before x.entry b x.split) reader view number token lower upper parts count weight rows lower upper
-        ((unmoved 0 list start es now x.before x.entry x.calls b x.split x.going).quiet v.number v.state v.last) v x.own x.effect.effect only in
-        (sym (ap append_text ok.0), subst (λ (z : View). ViewAt own_shard list start now reader z) (after_accepted view ok.0)
-        (subst (λ (fs : List Entry). ViewAt own_shard list start fs reader (view_with view (extended view.collection rows upper (weight_of rows)))) (sym x.split) ok.1))
+        let only = subst (λ (fs : List Entry). OnlyOne (Commits start own_shard) (AcceptedAt list start own_shard rows lower upper)
+        (places 0 (x.calls + 1) fs)) x.split x.legal in
+        let ok = append_ok own_shard list start 0 es x.before x.calls x.entry b.stands
+        (lawful_last list start es now x.before x.entry b x.split) reader view number token lower upper parts count weight rows lower upper
+        ((unmoved 0 list start es now x.before x.entry x.calls b x.split x.going).quiet v.number v.state v.last) v x.own x.effect.effect only in (
+          sym (ap append_text ok.0),
+          subst (λ (z : View). ViewAt own_shard list start now reader z) (after_accepted view ok.0)
+              (subst (λ (fs : List Entry). ViewAt own_shard list start fs reader
+              (view_with view (extended view.collection rows upper (weight_of rows)))) (sym x.split) ok.1),
+        )
     go (writes.Mismatch current) list start es now b x =
-        refused (mismatch current) list start es now x.before x.entry x.calls b x.going x.own x.split x.effect.effect x.legal.at_scan (λ view. refl)
+        refused (mismatch current) list start es now x.before x.entry x.calls b x.going x.own x.split x.effect.effect x.legal.at_scan
+        (λ view. refl)
     go (writes.Heavy weight) list start es now b x =
-        refused (heavy weight) list start es now x.before x.entry x.calls b x.going x.own x.split x.effect.effect x.legal.at_scan (λ view. refl)
+        refused (heavy weight) list start es now x.before x.entry x.calls b x.going x.own x.split x.effect.effect x.legal.at_scan
+        (λ view. refl)
     go (writes.Opened member version) list start es now b x = absurd x.legal
     go (writes.MembersFull version) list start es now b x = absurd x.legal
     go (writes.Closed version) list start es now b x = absurd x.legal
@@ -214,18 +247,22 @@ appends a d number token parts count weight reader rows lower upper answer went 
 -- ---- the writer leaves
 
 pub leaves_writer : (a d : Option History) (number token : ℕ) (answer : WriteAnswer) →
-    Goes own_shard a d (Answered write.machine 0 (writing number token (Leave number) asks.CloseWriter) answer) → Goes own_shard a d (Closed (Ok tt))
+    Goes own_shard a d (Answered write.machine 0 (writing number token (Leave number) asks.CloseWriter) answer) →
+    Goes own_shard a d (Closed (Ok tt))
 leaves_writer a d number token answer went =
     going_so own_shard a d (Wrote answer) (Closed (Ok tt)) went (λ list start es now b x. go answer list start es now b x)
   where
     Wrote : WriteAnswer → List Update → Stored → List Entry → List Entry → Type 0
-    Wrote answer list start es now = Answered write.machine 0 (writing number token (Leave number) asks.CloseWriter) answer list start es now
+    Wrote answer list start es now = Answered write.machine 0 (writing number token
+        (Leave number) asks.CloseWriter) answer list start es now
 
-    go : (answer : WriteAnswer) (list : List Update) (start : Stored) (es now : List Entry) → Between own_shard list start es now → Wrote answer list start es now →
+    go : (answer : WriteAnswer) (list : List Update) (start : Stored) (es now : List Entry) → Between own_shard list start es now →
+        Wrote answer list start es now →
         accepted own_shard list start now ≡ accepted own_shard list start es
     go (writes.Closed version) list start es now b x =
         ap (accepted own_shard list start) x.split
-        ∙ left_keeps own_shard list start b.stands x.entry x.before (lawful_last list start es now x.before x.entry b x.split) number x.effect.effect
+        ∙ left_keeps own_shard list start b.stands x.entry x.before
+        (lawful_last list start es now x.before x.entry b x.split) number x.effect.effect
         ∙ (unmoved 0 list start es now x.before x.entry x.calls b x.split x.going).accepts
     go writes.Ok list start es now b x = absurd x.legal
     go (writes.Mismatch current) list start es now b x = absurd x.legal
@@ -237,10 +274,11 @@ leaves_writer a d number token answer went =
 
 -- a member's command of the run's reader
 abbrev pub reading : ℕ → Option (Option ℕ) → Transition → Asked → read.Kept
-reading number listen step asked = record { asked = Some asked; member = Some number; listen = listen; shard = own_shard; step = step }
+reading number listen tried asked = record { asked = Some asked; member = Some number; listen = listen; shard = own_shard; step = tried }
 
 -- where a command has committed nothing, the view is as it was, and what it saw is what the view says
-seen : (list : List Update) (start : Stored) (es now before : List Entry) (e : Entry) (calls reader : ℕ) (view : View) → Between own_shard list start es now →
+seen : (list : List Update) (start : Stored) (es now before : List Entry) (e : Entry) (calls reader : ℕ) (view : View) →
+    Between own_shard list start es now →
     Going own_shard 1 start es before calls → e.client ≡ 1 → now ≡ e ∷ before →
     CommitsNone (reply (replay_back start before) e) → ViewAt own_shard list start es reader view →
     QuietSince own_shard 1 start es now (calls + 1) × ViewAt own_shard list start now reader view
@@ -250,35 +288,44 @@ seen list start es now before e calls reader view b g own split none v =
 
 module _ (a d : Option History) (number : ℕ) (listen : Option (Option ℕ)) (tried : Transition) where
   -- a reader that reads stands
-  stands_still : (list : List Update) (start : Stored) (es now before : List Entry) (e : Entry) (calls version : ℕ) → Between own_shard list start es now →
+  stands_still : (list : List Update) (start : Stored) (es now before : List Entry) (e : Entry) (calls version : ℕ) →
+      Between own_shard list start es now →
       Going own_shard 1 start es before calls → e.client ≡ 1 → now ≡ e ∷ before → CommitsNone (reply (replay_back start before) e) →
       Absent start own_shard number version (places 1 (calls + 1) now) → (view : View) → ViewAt own_shard list start es number view → ⊥
   stands_still list start es now before e calls version b g own split none h view v =
       let (q, kept) = seen list start es now before e calls number view b g own split none v in
       scan_absent own_shard list start 1 es now (calls + 1) number view q v version h
 
-  pub snapshots : (t : ℕ) (answer : ReadAnswer) → Goes own_shard a d (Answered read.machine 1 (reading number listen tried (asks.Snapshot t)) answer) →
+  pub snapshots : (t : ℕ) (answer : ReadAnswer) → Goes own_shard a d
+      (Answered read.machine 1 (reading number listen tried (asks.Snapshot t)) answer) →
       Goes own_shard a d (Replies number (λ view. snapshot_text (snapshot_answer view.collection t)) (λ view. view) (read_reply answer))
   snapshots t answer went =
-      going_so own_shard a d (Read answer) (Replies number (λ view. snapshot_text (snapshot_answer view.collection t)) (λ view. view) (read_reply answer)) went
+      going_so own_shard a d (Read answer) (Replies number (λ view. snapshot_text (snapshot_answer view.collection t)) (λ view. view)
+      (read_reply answer)) went
       (λ list start es now b x. go answer list start es now b x)
     where
       Read : ReadAnswer → List Update → Stored → List Entry → List Entry → Type 0
       Read answer list start es now = Answered read.machine 1 (reading number listen tried (asks.Snapshot t)) answer list start es now
 
-      says : (y : SnapshotAnswer) (list : List Update) (start : Stored) (es now before : List Entry) (e : Entry) (calls : ℕ) → Between own_shard list start es now →
+      says : (y : SnapshotAnswer) (list : List Update) (start : Stored) (es now before : List Entry) (e : Entry) (calls : ℕ) →
+          Between own_shard list start es now →
           Going own_shard 1 start es before calls → e.client ≡ 1 → now ≡ e ∷ before → CommitsNone (reply (replay_back start before) e) →
-          Snapshots list start own_shard number t y (places 1 (calls + 1) now) → (view : View) → ViewAt own_shard list start es number view →
+          Snapshots list start own_shard number t y (places 1 (calls + 1) now) → (view : View) →
+          ViewAt own_shard list start es number view →
           (snapshot_text y ≡ snapshot_text (snapshot_answer view.collection t)) × ViewAt own_shard list start now number view
       says y list start es now before e calls b g own split none h view v =
           let (q, kept) = seen list start es now before e calls number view b g own split none v in
           (sym (ap snapshot_text (scan_snapshot own_shard list start 1 es now (calls + 1) number view q v number t y h)), kept)
 
-      go : (answer : ReadAnswer) (list : List Update) (start : Stored) (es now : List Entry) → Between own_shard list start es now → Read answer list start es now →
+      go : (answer : ReadAnswer) (list : List Update) (start : Stored) (es now : List Entry) → Between own_shard list start es now →
+          Read answer list start es now →
           Replies number (λ view. snapshot_text (snapshot_answer view.collection t)) (λ view. view) (read_reply answer) list start es now
-      go (reads.Rows rows) list start es now b x = says (content rows) list start es now x.before x.entry x.calls b x.going x.own x.split x.effect.effect x.legal.0
-      go (reads.Early since) list start es now b x = says (early since) list start es now x.before x.entry x.calls b x.going x.own x.split x.effect.effect x.legal.0
-      go (reads.Late upper) list start es now b x = says (late upper) list start es now x.before x.entry x.calls b x.going x.own x.split x.effect.effect x.legal.0
+      go (reads.Rows rows) list start es now b x = says
+          (content rows) list start es now x.before x.entry x.calls b x.going x.own x.split x.effect.effect x.legal.0
+      go (reads.Early since) list start es now b x = says
+          (early since) list start es now x.before x.entry x.calls b x.going x.own x.split x.effect.effect x.legal.0
+      go (reads.Late upper) list start es now b x = says
+          (late upper) list start es now x.before x.entry x.calls b x.going x.own x.split x.effect.effect x.legal.0
       go (reads.Expired version) list start es now b x = stands_still list start es now x.before x.entry x.calls version b x.going x.own x.split x.effect.effect x.legal.0
       go (reads.Opened member version since) list start es now b x = absurd x.legal.0
       go (reads.MembersFull version) list start es now b x = absurd x.legal.0
@@ -290,28 +337,37 @@ module _ (a d : Option History) (number : ℕ) (listen : Option (Option ℕ)) (t
       go (reads.Renewed version) list start es now b x = absurd x.legal.0
       go (reads.Closed version) list start es now b x = absurd x.legal.0
 
-  pub listens : (t : ℕ) (answer : ReadAnswer) → Goes own_shard a d (Answered read.machine 1 (reading number listen tried (asks.Listen t)) answer) →
+  pub listens : (t : ℕ) (answer : ReadAnswer) → Goes own_shard a d
+      (Answered read.machine 1 (reading number listen tried (asks.Listen t)) answer) →
       Goes own_shard a d (Replies number (λ view. listen_text (listen_answer view.collection (after t))) (λ view. view) (read_reply answer))
   listens t answer went =
-      going_so own_shard a d (Read answer) (Replies number (λ view. listen_text (listen_answer view.collection (after t))) (λ view. view) (read_reply answer)) went
+      going_so own_shard a d (Read answer) (Replies number (λ view. listen_text (listen_answer view.collection (after t))) (λ view. view)
+      (read_reply answer)) went
       (λ list start es now b x. go answer list start es now b x)
     where
       Read : ReadAnswer → List Update → Stored → List Entry → List Entry → Type 0
       Read answer list start es now = Answered read.machine 1 (reading number listen tried (asks.Listen t)) answer list start es now
 
-      says : (y : ListenAnswer) (list : List Update) (start : Stored) (es now before : List Entry) (e : Entry) (calls : ℕ) → Between own_shard list start es now →
+      says : (y : ListenAnswer) (list : List Update) (start : Stored) (es now before : List Entry) (e : Entry) (calls : ℕ) →
+          Between own_shard list start es now →
           Going own_shard 1 start es before calls → e.client ≡ 1 → now ≡ e ∷ before → CommitsNone (reply (replay_back start before) e) →
-          Listens list start own_shard number (after t) y (places 1 (calls + 1) now) → (view : View) → ViewAt own_shard list start es number view →
+          Listens list start own_shard number (after t) y (places 1 (calls + 1) now) → (view : View) →
+          ViewAt own_shard list start es number view →
           (listen_text y ≡ listen_text (listen_answer view.collection (after t))) × ViewAt own_shard list start now number view
       says y list start es now before e calls b g own split none h view v =
           let (q, kept) = seen list start es now before e calls number view b g own split none v in
           (sym (ap listen_text (scan_listen own_shard list start 1 es now (calls + 1) number view q v number (after t) y h)), kept)
 
-      go : (answer : ReadAnswer) (list : List Update) (start : Stored) (es now : List Entry) → Between own_shard list start es now → Read answer list start es now →
-          Replies number (λ view. listen_text (listen_answer view.collection (after t))) (λ view. view) (read_reply answer) list start es now
-      go (reads.Step from to rows) list start es now b x = says (step rows to) list start es now x.before x.entry x.calls b x.going x.own x.split x.effect.effect x.legal.0.1
-      go (reads.Early since) list start es now b x = says (behind since) list start es now x.before x.entry x.calls b x.going x.own x.split x.effect.effect x.legal.0
-      go (reads.Quiet upper) list start es now b x = says (quiet upper) list start es now x.before x.entry x.calls b x.going x.own x.split x.effect.effect x.legal.0
+      go : (answer : ReadAnswer) (list : List Update) (start : Stored) (es now : List Entry) → Between own_shard list start es now →
+          Read answer list start es now →
+          Replies number (λ view. listen_text (listen_answer view.collection (after t))) (λ view. view)
+          (read_reply answer) list start es now
+      go (reads.Step from to rows) list start es now b x = says
+          (step rows to) list start es now x.before x.entry x.calls b x.going x.own x.split x.effect.effect x.legal.0.1
+      go (reads.Early since) list start es now b x = says
+          (behind since) list start es now x.before x.entry x.calls b x.going x.own x.split x.effect.effect x.legal.0
+      go (reads.Quiet upper) list start es now b x = says
+          (quiet upper) list start es now x.before x.entry x.calls b x.going x.own x.split x.effect.effect x.legal.0
       go reads.Ended list start es now b x = says ended list start es now x.before x.entry x.calls b x.going x.own x.split x.effect.effect x.legal.0
       go (reads.Expired version) list start es now b x = stands_still list start es now x.before x.entry x.calls version b x.going x.own x.split x.effect.effect x.legal.0
       go (reads.Opened member version since) list start es now b x = absurd x.legal.0
@@ -325,27 +381,34 @@ module _ (a d : Option History) (number : ℕ) (listen : Option (Option ℕ)) (t
 
   -- ---- a new since
 
-  pub advancing : (to : ℕ) (answer : ReadAnswer) → Goes own_shard a d (Answered read.machine 1 (reading number listen (Advance number to) (asks.Advance to)) answer) →
+  pub advancing : (to : ℕ) (answer : ReadAnswer) → Goes own_shard a d
+      (Answered read.machine 1 (reading number listen (Advance number to) (asks.Advance to)) answer) →
       Goes own_shard a d (Replies number (λ view. since_reply view.own to) (λ view. view_since view to) (read_reply answer))
   advancing to answer went =
-      going_so own_shard a d (Read answer) (Replies number (λ view. since_reply view.own to) (λ view. view_since view to) (read_reply answer)) went
+      going_so own_shard a d (Read answer) (Replies number (λ view. since_reply view.own to) (λ view. view_since view to)
+      (read_reply answer)) went
       (λ list start es now b x. go answer list start es now b x)
     where
       Read : ReadAnswer → List Update → Stored → List Entry → List Entry → Type 0
-      Read answer list start es now = Answered read.machine 1 (reading number listen (Advance number to) (asks.Advance to)) answer list start es now
+      Read answer list start es now = Answered read.machine 1 (reading number listen (Advance number to)
+          (asks.Advance to)) answer list start es now
 
       taken : (view : View) → view.own ≤ to → replies.Accepted ≡ since_reply view.own to
       taken view le = let test : nat_le view.own to ≡ true = grind (arith, nat_tests) in rw test refl
 
-      refused : (view : View) (since : ℕ) → to < since → since ≡ view.own → (replies.Back since ≡ since_reply view.own to) × (view ≡ view_since view to)
-      refused view since below is = let test : nat_le view.own to ≡ false = grind (arith, nat_tests) in (rw test (ap replies.Back is), rw test refl)
+      refused : (view : View) (since : ℕ) → to < since → since ≡ view.own →
+          (replies.Back since ≡ since_reply view.own to) × (view ≡ view_since view to)
+      refused view since below is = let test : nat_le view.own to ≡ false = grind (arith, nat_tests) in
+          (rw test (ap replies.Back is), rw test refl)
 
-      go : (answer : ReadAnswer) (list : List Update) (start : Stored) (es now : List Entry) → Between own_shard list start es now → Read answer list start es now →
+      go : (answer : ReadAnswer) (list : List Update) (start : Stored) (es now : List Entry) → Between own_shard list start es now →
+          Read answer list start es now →
           Replies number (λ view. since_reply view.own to) (λ view. view_since view to) (read_reply answer) list start es now
       go (reads.Advanced version) list start es now b x = λ view v.
           let q = (unmoved 1 list start es now x.before x.entry x.calls b x.split x.going).quiet v.number v.state v.last in
           let at = quiet_view own_shard list start 1 es x.before x.calls number view q v in
-          let (le, there) = advances_since own_shard list start b.stands x.entry x.before (lawful_last list start es now x.before x.entry b x.split) number to view at x.effect.effect in
+          let (le, there) = advances_since own_shard list start b.stands x.entry x.before
+          (lawful_last list start es now x.before x.entry b x.split) number to view at x.effect.effect in
           (taken view le, subst (λ (fs : List Entry). ViewAt own_shard list start fs number (view_since view to)) (sym x.split) there)
       go (reads.Back since) list start es now b x = λ view v.
           let (q, kept) = seen list start es now x.before x.entry x.calls number view b x.going x.own x.split x.effect.effect v in
@@ -366,19 +429,23 @@ module _ (a d : Option History) (number : ℕ) (listen : Option (Option ℕ)) (t
 
   -- ---- the reader leaves
 
-  pub leaves_reader : (answer : ReadAnswer) → Goes own_shard a d (Answered read.machine 1 (reading number listen (Leave number) asks.CloseReader) answer) →
+  pub leaves_reader : (answer : ReadAnswer) → Goes own_shard a d
+      (Answered read.machine 1 (reading number listen (Leave number) asks.CloseReader) answer) →
       Goes own_shard a d (Closed (Ok tt))
   leaves_reader answer went =
       going_so own_shard a d (Read answer) (Closed (Ok tt)) went (λ list start es now b x. go answer list start es now b x)
     where
       Read : ReadAnswer → List Update → Stored → List Entry → List Entry → Type 0
-      Read answer list start es now = Answered read.machine 1 (reading number listen (Leave number) asks.CloseReader) answer list start es now
+      Read answer list start es now = Answered read.machine 1 (reading number listen
+          (Leave number) asks.CloseReader) answer list start es now
 
-      go : (answer : ReadAnswer) (list : List Update) (start : Stored) (es now : List Entry) → Between own_shard list start es now → Read answer list start es now →
+      go : (answer : ReadAnswer) (list : List Update) (start : Stored) (es now : List Entry) → Between own_shard list start es now →
+          Read answer list start es now →
           accepted own_shard list start now ≡ accepted own_shard list start es
       go (reads.Closed version) list start es now b x =
           ap (accepted own_shard list start) x.split
-          ∙ left_keeps own_shard list start b.stands x.entry x.before (lawful_last list start es now x.before x.entry b x.split) number x.effect.effect
+          ∙ left_keeps own_shard list start b.stands x.entry x.before
+          (lawful_last list start es now x.before x.entry b x.split) number x.effect.effect
           ∙ (unmoved 1 list start es now x.before x.entry x.calls b x.split x.going).accepts
       go (reads.Opened member version since) list start es now b x = absurd x.legal.0
       go (reads.MembersFull version) list start es now b x = absurd x.legal.0
@@ -396,7 +463,8 @@ module _ (a d : Option History) (number : ℕ) (listen : Option (Option ℕ)) (t
 -- ---- whose the machines are
 
 -- an answer that is a reply leaves the member
-pub read_keeps : (member : Option ℕ) (answer : ReadAnswer) (r : RunReply) → read_reply answer ≡ Ok r → readers.member_after member answer ≡ member
+pub read_keeps : (member : Option ℕ) (answer : ReadAnswer) (r : RunReply) → read_reply answer ≡ Ok r →
+    readers.member_after member answer ≡ member
 read_keeps member (reads.Rows rows) r is = refl
 read_keeps member (reads.Early since) r is = refl
 read_keeps member (reads.Late upper) r is = refl
@@ -411,7 +479,8 @@ read_keeps member (reads.Renewed version) r is = cc
 read_keeps member (reads.Closed version) r is = cc
 read_keeps member (reads.Expired version) r is = cc
 
-pub write_keeps : (member : Option ℕ) (answer : WriteAnswer) (r : RunReply) → write_reply answer ≡ Ok r → writers.member_after member answer ≡ member
+pub write_keeps : (member : Option ℕ) (answer : WriteAnswer) (r : RunReply) → write_reply answer ≡ Ok r →
+    writers.member_after member answer ≡ member
 write_keeps member writes.Ok r is = refl
 write_keeps member (writes.Mismatch current) r is = refl
 write_keeps member (writes.Heavy weight) r is = refl

@@ -27,6 +27,7 @@ Failed faults.MembersFull start es now = ScannedFull start es now
 Failed faults.Spent start es now = ScannedSpent start es now
 
 -- what has become of a command of a machine
-abbrev pub Driven : {M A : Type 0} → (W : Words M A) → ℕ → W.Kept → Result A SessionFault → List Update → Stored → List Entry → List Entry → Type 0
+abbrev pub Driven : {M A : Type 0} → (W : Words M A) → ℕ → W.Kept → Result A SessionFault → List Update → Stored → List Entry →
+    List Entry → Type 0
 Driven W client k (Ok answer) list start es now = Answered W client k answer list start es now
 Driven W client k (Err fault) list start es now = Failed fault start es now

@@ -190,7 +190,7 @@ impl Session {
     {
         let FeedAppend { lower, upper, rows } = append;
         self.writer.begin_append(alloc, rows, lower, upper)?;
-            let answer = drive_writer(alloc, &mut self.writer, port)?;
+        let answer = drive_writer(alloc, &mut self.writer, port)?;
         reply_written(answer)
     }
 
@@ -267,7 +267,7 @@ impl Session {
         ensures later { S.faults port.old.store ≤ S.faults port.new.store }
     {
         self.writer.begin_close(alloc)?;
-            let _answer = drive_writer(alloc, &mut self.writer, port)?;
+        let _answer = drive_writer(alloc, &mut self.writer, port)?;
         Ok(())
     }
 

@@ -5,8 +5,8 @@ ghost use Rattle.store_core.specs.Starting.{CanStart, NoneTwice, same_shard, sha
 use super::*;
 use crate::deaf_stores::DeafStore;
 use crate::sessions::Session;
-use driving::SolePort;
 use causes::NumberList;
+use driving::SolePort;
 use feed_text::{Feed, FeedLine, MemSink, MemSource, RunReply, parse_feed, print_reply};
 use state_core::{Transition, decode_version};
 use std::alloc::{AllocError, Global};

@@ -14,7 +14,8 @@ returns-in_err-answer-clause-told g c =
     let a = g.S.Store.history c.args.port.now.store in
     let d = g.S.Store.history c.drive_reader.new.port.store in
     let p = err_from_is_err_and c.from_residual.result c.from_residual.ensures.1 in
-    rw p.1 (subst (λ (e : SessionFault). Goes own_shard a d (λ list start es now. Failed e start es now)) (sym p.2) c.in_err-answer.ensures.told)
+    rw p.1 (subst (λ (e : SessionFault). Goes own_shard a d (λ list start es now. Failed e start es now))
+    (sym p.2) c.in_err-answer.ensures.told)
 
 pub returns-in_err-reader_joined-clause-told : goal.returns-in_err-reader_joined-clause-told
 returns-in_err-reader_joined-clause-told g c =
@@ -23,9 +24,11 @@ returns-in_err-reader_joined-clause-told g c =
     let new = c.drive_reader.new.reader in
     let answer = c.in_ok-answer.answer in
     let p = err_from_is_err_and c.from_residual-in_err-reader_joined.result c.from_residual-in_err-reader_joined.ensures.1 in
-    let told = subst (λ (w : Reader). Goes own_shard a d (Driven machine 1 (kept w) (Ok answer))) c.open-reader.ensures.opened c.in_ok-answer.ensures.told in
+    let told = subst (λ (w : Reader). Goes own_shard a d (Driven machine 1 (kept w)
+    (Ok answer))) c.open-reader.ensures.opened c.in_ok-answer.ensures.told in
     let over = subst (λ (w : Reader). Ended (kept w) answer new) c.open-reader.ensures.opened c.in_ok-answer.ensures.ended in
-    let joined = subst (λ (r : Result Unit SessionFault). Goes own_shard a d (JoinsReader r new)) (sym c.reader_joined.ensures ∙ c.in_err-reader_joined.was) (opens_reader a d c.args.now 1000000 new answer over.member told) in
+    let joined = subst (λ (r : Result Unit SessionFault). Goes own_shard a d (JoinsReader r new))
+    (sym c.reader_joined.ensures ∙ c.in_err-reader_joined.was) (opens_reader a d c.args.now 1000000 new answer over.member told) in
     rw p.1 (subst (λ (e : SessionFault). Goes own_shard a d (λ list start es now. Failed e start es now)) (sym p.2) joined)
 
 pub returns-clause-told : goal.returns-clause-told
@@ -34,6 +37,8 @@ returns-clause-told g c =
     let d = g.S.Store.history c.drive_reader.new.port.store in
     let new = c.drive_reader.new.reader in
     let answer = c.in_ok-answer.answer in
-    let told = subst (λ (w : Reader). Goes own_shard a d (Driven machine 1 (kept w) (Ok answer))) c.open-reader.ensures.opened c.in_ok-answer.ensures.told in
+    let told = subst (λ (w : Reader). Goes own_shard a d (Driven machine 1 (kept w)
+    (Ok answer))) c.open-reader.ensures.opened c.in_ok-answer.ensures.told in
     let over = subst (λ (w : Reader). Ended (kept w) answer new) c.open-reader.ensures.opened c.in_ok-answer.ensures.ended in
-    subst (λ (r : Result Unit SessionFault). Goes own_shard a d (JoinsReader r new)) (sym c.reader_joined.ensures ∙ c.in_ok-reader_joined.was) (opens_reader a d c.args.now 1000000 new answer over.member told)
+    subst (λ (r : Result Unit SessionFault). Goes own_shard a d (JoinsReader r new))
+    (sym c.reader_joined.ensures ∙ c.in_ok-reader_joined.was) (opens_reader a d c.args.now 1000000 new answer over.member told)

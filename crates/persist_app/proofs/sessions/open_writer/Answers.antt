@@ -15,20 +15,25 @@ returns-in_err-answer-clause-told g c =
     let a = g.S.Store.history c.args.port.now.store in
     let d = g.S.Store.history c.drive_writer.new.port.store in
     let p = err_from_is_err_and c.from_residual.result c.from_residual.ensures.1 in
-    rw p.1 (subst (λ (e : SessionFault). Goes own_shard a d (λ list start es now. Failed e start es now)) (sym p.2) c.in_err-answer.ensures.told)
+    rw p.1 (subst (λ (e : SessionFault). Goes own_shard a d (λ list start es now. Failed e start es now))
+    (sym p.2) c.in_err-answer.ensures.told)
 
 pub returns-in_err-writer_joined-clause-told : goal.returns-in_err-writer_joined-clause-told
 returns-in_err-writer_joined-clause-told g c =
     let a = g.S.Store.history c.args.port.now.store in
     let d = g.S.Store.history c.drive_writer.new.port.store in
     let p = err_from_is_err_and c.from_residual-in_err-writer_joined.result c.from_residual-in_err-writer_joined.ensures.1 in
-    let told = subst (λ (w : Writer). Goes own_shard a d (Driven machine 0 (kept w) (Ok c.in_ok-answer.answer))) c.open-writer.ensures.opened c.in_ok-answer.ensures.told in
-    let joined = subst (λ (r : Result Unit SessionFault). Goes own_shard a d (OpensWriter {A = Unit {0}} r)) (sym c.writer_joined.ensures ∙ c.in_err-writer_joined.was) (opens_writer a d c.in_ok-answer.answer told) in
+    let told = subst (λ (w : Writer). Goes own_shard a d (Driven machine 0 (kept w)
+    (Ok c.in_ok-answer.answer))) c.open-writer.ensures.opened c.in_ok-answer.ensures.told in
+    let joined = subst (λ (r : Result Unit SessionFault). Goes own_shard a d (OpensWriter {A = Unit {0}} r))
+    (sym c.writer_joined.ensures ∙ c.in_err-writer_joined.was) (opens_writer a d c.in_ok-answer.answer told) in
     rw p.1 (subst (λ (e : SessionFault). Goes own_shard a d (λ list start es now. Failed e start es now)) (sym p.2) joined)
 
 pub returns-clause-told : goal.returns-clause-told
 returns-clause-told g c =
     let a = g.S.Store.history c.args.port.now.store in
     let d = g.S.Store.history c.drive_writer.new.port.store in
-    let told = subst (λ (w : Writer). Goes own_shard a d (Driven machine 0 (kept w) (Ok c.in_ok-answer.answer))) c.open-writer.ensures.opened c.in_ok-answer.ensures.told in
-    subst (λ (r : Result Unit SessionFault). Goes own_shard a d (OpensWriter {A = Unit {0}} r)) (sym c.writer_joined.ensures ∙ c.in_ok-writer_joined.was) (opens_writer a d c.in_ok-answer.answer told)
+    let told = subst (λ (w : Writer). Goes own_shard a d (Driven machine 0 (kept w)
+    (Ok c.in_ok-answer.answer))) c.open-writer.ensures.opened c.in_ok-answer.ensures.told in
+    subst (λ (r : Result Unit SessionFault). Goes own_shard a d (OpensWriter {A = Unit {0}} r))
+    (sym c.writer_joined.ensures ∙ c.in_ok-writer_joined.was) (opens_writer a d c.in_ok-answer.answer told)

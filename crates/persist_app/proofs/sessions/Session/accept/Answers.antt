@@ -21,7 +21,9 @@ returns-in_err-answer-clause-told g c =
     let d = g.S.Store.history c.drive_writer.new.port.store in
     let x = c.args.append in
     let p = err_from_is_err_and c.from_residual-in_err-answer.result c.from_residual-in_err-answer.ensures.1 in
-    rw p.1 (failed_replies a d (number_of c.args.self.now.reader) (λ view. append_text (append_answer view.collection x.lower (weight_of x.rows))) (λ view. view_with view (after_append view.collection x.rows x.lower x.upper (weight_of x.rows))) p.0
+    rw p.1 (failed_replies a d (number_of c.args.self.now.reader)
+    (λ view. append_text (append_answer view.collection x.lower (weight_of x.rows)))
+    (λ view. view_with view (after_append view.collection x.rows x.lower x.upper (weight_of x.rows))) p.0
     (subst (λ (e : SessionFault). Goes own_shard a d (λ list start es now. Failed e start es now)) (sym p.2) c.in_err-answer.ensures.told))
 
 pub returns-clause-told : goal.returns-clause-told
@@ -30,8 +32,10 @@ returns-clause-told g c =
     let d = g.S.Store.history c.drive_writer.new.port.store in
     let x = c.args.append in
     let begun = append_begun a c.args.self.now.writer c.begin_append.new.self x.rows x.lower x.upper c.requires.ready.writer c.in_ok-begin_append.ensures.begins.1 in
-    subst (λ (r : Result RunReply SessionFault). Goes own_shard a d (AnswersAppendOf (number_of c.args.self.now.reader) x.rows x.lower x.upper r)) (sym c.reply_written.ensures)
-    (appends a d begun.number begun.token begun.parts begun.count begun.weight (number_of c.args.self.now.reader) x.rows x.lower x.upper c.in_ok-answer.answer
+    subst (λ (r : Result RunReply SessionFault). Goes own_shard a d
+    (AnswersAppendOf (number_of c.args.self.now.reader) x.rows x.lower x.upper r)) (sym c.reply_written.ensures)
+    (appends a d begun.number begun.token begun.parts begun.count begun.weight
+    (number_of c.args.self.now.reader) x.rows x.lower x.upper c.in_ok-answer.answer
     (subst (λ (k : Kept). Goes own_shard a d (Answered machine 0 k c.in_ok-answer.answer)) begun.kept c.in_ok-answer.ensures.told))
 
 pub returns-clause-ready : goal.returns-clause-ready

@@ -15,12 +15,15 @@ returns-in_err-_answer-clause-told g c =
     let a = g.S.Store.history c.args.port.now.store in
     let d = g.S.Store.history c.drive_reader.new.port.store in
     let p = err_from_is_err_and c.from_residual-in_err-_answer.result c.from_residual-in_err-_answer.ensures.1 in
-    rw p.1 (subst (λ (e : SessionFault). Goes own_shard a d (λ list start es now. Failed e start es now)) (sym p.2) c.in_err-_answer.ensures.told)
+    rw p.1 (subst (λ (e : SessionFault). Goes own_shard a d (λ list start es now. Failed e start es now))
+    (sym p.2) c.in_err-_answer.ensures.told)
 
 pub returns-clause-told : goal.returns-clause-told
 returns-clause-told g c =
     let a = g.S.Store.history c.args.port.now.store in
     let d = g.S.Store.history c.drive_reader.new.port.store in
-    let begun = change_begun a c.args.self.now.reader c.begin_close.new.self asks.CloseReader (λ m. Leave m) c.requires.ready c.in_ok-begin_close.ensures.begins.1 in
+    let begun = change_begun a c.args.self.now.reader c.begin_close.new.self asks.CloseReader
+    (λ m. Leave m) c.requires.ready c.in_ok-begin_close.ensures.begins.1 in
     leaves_reader a d begun.0.number c.args.self.now.reader.listen (Leave begun.0.number) c.in_ok-_answer._answer
-    (asked_told a d c.args.self.now.reader c.begin_close.new.self c.args.self.now.reader.listen asks.CloseReader (Leave begun.0.number) c.in_ok-_answer._answer begun.0 begun.1 c.in_ok-_answer.ensures.told)
+    (asked_told a d c.args.self.now.reader c.begin_close.new.self c.args.self.now.reader.listen asks.CloseReader
+    (Leave begun.0.number) c.in_ok-_answer._answer begun.0 begun.1 c.in_ok-_answer.ensures.told)

@@ -15,7 +15,8 @@ returns-in_err-_answer-clause-told g c =
     let a = g.S.Store.history c.args.port.now.store in
     let d = g.S.Store.history c.drive_writer.new.port.store in
     let p = err_from_is_err_and c.from_residual-in_err-_answer.result c.from_residual-in_err-_answer.ensures.1 in
-    rw p.1 (subst (λ (e : SessionFault). Goes own_shard a d (λ list start es now. Failed e start es now)) (sym p.2) c.in_err-_answer.ensures.told)
+    rw p.1 (subst (λ (e : SessionFault). Goes own_shard a d (λ list start es now. Failed e start es now))
+    (sym p.2) c.in_err-_answer.ensures.told)
 
 pub returns-clause-told : goal.returns-clause-told
 returns-clause-told g c =

@@ -13,7 +13,8 @@ returns-in_err-writer-clause-told g c =
     let a = g.S.Store.history c.args.port.now.store in
     let b = g.S.Store.history c.open_writer.new.port.store in
     let p = err_from_is_err_and c.from_residual.result c.from_residual.ensures.1 in
-    rw p.1 (subst (λ (e : SessionFault). Goes own_shard a b (λ list start es now. Failed e start es now)) (sym p.2) c.in_err-writer.ensures.told)
+    rw p.1 (subst (λ (e : SessionFault). Goes own_shard a b (λ list start es now. Failed e start es now))
+    (sym p.2) c.in_err-writer.ensures.told)
 
 pub returns-in_err-reader-clause-told : goal.returns-in_err-reader-clause-told
 returns-in_err-reader-clause-told g c =
@@ -21,12 +22,16 @@ returns-in_err-reader-clause-told g c =
     let b = g.S.Store.history c.open_writer.new.port.store in
     let d = g.S.Store.history c.open_reader.new.port.store in
     let p = err_from_is_err_and c.from_residual-in_err-reader.result c.from_residual-in_err-reader.ensures.1 in
-    rw p.1 (failed_more a b d (OpensWriter (Ok c.in_ok-writer.writer)) p.0 c.in_ok-writer.ensures.told (subst (λ (e : SessionFault). Goes own_shard b d (λ list start es now. Failed e start es now)) (sym p.2) c.in_err-reader.ensures.told))
+    rw p.1 (failed_more a b d (OpensWriter (Ok c.in_ok-writer.writer)) p.0 c.in_ok-writer.ensures.told
+    (subst (λ (e : SessionFault). Goes own_shard b d (λ list start es now. Failed e start es now))
+    (sym p.2) c.in_err-reader.ensures.told))
 
 pub returns-clause-told : goal.returns-clause-told
 returns-clause-told g c =
-    opens_both (g.S.Store.history c.args.port.now.store) (g.S.Store.history c.open_writer.new.port.store) (g.S.Store.history c.open_reader.new.port.store) c.in_ok-writer.writer c.in_ok-reader.reader c.in_ok-writer.ensures.told c.in_ok-reader.ensures.told
+    opens_both (g.S.Store.history c.args.port.now.store) (g.S.Store.history c.open_writer.new.port.store)
+    (g.S.Store.history c.open_reader.new.port.store) c.in_ok-writer.writer c.in_ok-reader.reader c.in_ok-writer.ensures.told c.in_ok-reader.ensures.told
 
 pub returns-clause-ready : goal.returns-clause-ready
 returns-clause-ready g c =
-    ready_both (g.S.Store.history c.open_writer.new.port.store) (g.S.Store.history c.open_reader.new.port.store) c.in_ok-writer.writer c.in_ok-reader.reader c.in_ok-reader.ensures.by c.in_ok-writer.ensures.ready c.in_ok-reader.ensures.ready
+    ready_both (g.S.Store.history c.open_writer.new.port.store)
+    (g.S.Store.history c.open_reader.new.port.store) c.in_ok-writer.writer c.in_ok-reader.reader c.in_ok-reader.ensures.by c.in_ok-writer.ensures.ready c.in_ok-reader.ensures.ready
