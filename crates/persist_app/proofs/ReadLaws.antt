@@ -1,55 +1,37 @@
 -- What a reader's commands come to in a session. Entries go newest first.
-use Rattle.std.proofs.Common.{◌≡◌, ◌≢◌, ℕ, ◌+◌, ◌<◌, ◌≤◌, true, false, Option, Some, None, Result, Ok, Err, List, [], ◌∷◌, length, refl, sym, ap, subst, ◌∙◌, arith}
-use Rattle.std.specs.Prelude.{nat_le, unwrap_or}
-use Rattle.std.specs.List.{AllByRecursion}
+use Rattle.std.proofs.Common.{◌≡◌, ℕ, ◌+◌, ◌<◌, ◌≤◌, true, false, Option, Some, Ok, List, ◌∷◌, refl, sym, ap, subst, ◌∙◌, arith}
+use Rattle.std.specs.Prelude.{nat_le}
 use Rattle.std.proofs.lemmas.Bool.Decides.{nat_tests}
 use Rattle.update_core.specs.declared.updates.Update.{Update}
-use Rattle.update_core.specs.Collections.{AppendAnswer, SnapshotAnswer, ListenAnswer, append_answer, after_append, after_answer, snapshot_answer, listen_answer}
-use Rattle.update_core.specs.Collections.{accepted as append_accepted, mismatch, heavy, content, early, late, behind, ended, quiet, step, extended}
+use Rattle.update_core.specs.Collections.{SnapshotAnswer, ListenAnswer, snapshot_answer, listen_answer}
+use Rattle.update_core.specs.Collections.{content, early, late, behind, ended, quiet, step}
 use Rattle.update_core.specs.Frontiers.{after}
-use Rattle.update_core.specs.Updates.{weight_of}
 use Rattle.store_core.specs.declared.entries.Entry.{Entry}
-use Rattle.store_core.specs.declared.part_keys.PartKey.{PartKey}
 use Rattle.store_core.specs.Stores.{Stored}
 use Rattle.store_core.specs.Histories.{History, reply}
-use Rattle.store_core.specs.Ports.{GrowsByOthers, OfOthers, with_entries}
 use Rattle.store_core.specs.Newest.{replay_back}
 use Rattle.state_core.specs.declared.transitions.Transition.{Transition}
-use Rattle.state_core.specs.declared.transitions.Transition.TheVariants.{Advance, Append, Leave}
-use Rattle.state_core.specs.States.{ShardState}
+use Rattle.state_core.specs.declared.transitions.Transition.TheVariants.{Advance, Leave}
 use Rattle.history_core.specs.declared.asked.Asked.{Asked}
 use Rattle.history_core.specs.declared.asked.Asked.TheVariants as asks
-use Rattle.history_core.specs.declared.write_answers.WriteAnswer.{WriteAnswer}
-use Rattle.history_core.specs.declared.write_answers.WriteAnswer.TheVariants as writes
 use Rattle.history_core.specs.declared.read_answers.ReadAnswer.{ReadAnswer}
 use Rattle.history_core.specs.declared.read_answers.ReadAnswer.TheVariants as reads
-use Rattle.history_core.specs.Legal.{Absent, AcceptedAt, AnswersAppend, Full, Listens, Snapshots}
-use Rattle.history_core.specs.Placing.{AtLastScan, Commits, OnlyOne, places}
+use Rattle.history_core.specs.Legal.{Absent, Listens, Snapshots}
+use Rattle.history_core.specs.Placing.{places}
 use Rattle.history_core.specs.Stands.{accepted}
-use Rattle.load_core.specs.Effects.{CommitsNone, IsShown}
-use Rattle.machine_core.specs.Machines.{Keeps, Words}
-use Rattle.machine_core.specs.Polling.{FollowsWhere}
-use Rattle.machine_core.proofs.Polls.{others_where}
-use Rattle.write_client.specs.Machining as write
-use Rattle.write_client.specs.Writing as writers
-use Rattle.read_client.specs.declared.readers.Reader.{Reader}
+use Rattle.load_core.specs.Effects.{CommitsNone}
 use Rattle.read_client.specs.Machining as read
-use Rattle.read_client.specs.Reading as readers
-use Rattle.feed_text.specs.declared.replies.RunReply.{RunReply}
 use Rattle.feed_text.specs.declared.replies.RunReply.TheVariants as replies
-use Rattle.driving.specs.Drives.{Answered, Going, Scanned}
-use Rattle.driving.specs.Goings.{Goes, GrowsBy}
-use Rattle.driving.proofs.Driving.{scanned_last, shown_scan}
+use Rattle.driving.specs.Drives.{Answered, Going}
+use Rattle.driving.specs.Goings.{Goes}
 use Rattle.driving.proofs.GoingLaws.{Between, going_so}
-use Rattle.persist_app.specs.declared.session_faults.SessionFault.{SessionFault}
-use Rattle.persist_app.specs.Answering.{Closed, OpensReader, OpensWriter, Replies, read_reply, reader_let_in, write_reply, writer_let_in}
-use Rattle.persist_app.specs.Drives.{Failed, ScannedFull}
-use Rattle.persist_app.specs.PlainRuns.{View, append_text, listen_text, since_reply, snapshot_text, view_since, view_with}
-use Rattle.persist_app.specs.Sessions.{QuietSince, StartsAt, ViewAt, own_shard}
+use Rattle.persist_app.specs.Answering.{Closed, Replies, read_reply}
+use Rattle.persist_app.specs.PlainRuns.{View, listen_text, since_reply, snapshot_text, view_since}
+use Rattle.persist_app.specs.Sessions.{QuietSince, ViewAt, own_shard}
 use Rattle.persist_app.proofs.DriveLaws.{lawful_last, unmoved}
-use Rattle.persist_app.proofs.Quietly.{quiet_none, quiet_view}
-use Rattle.persist_app.proofs.Refused.{scan_absent, scan_append, scan_listen, scan_since, scan_snapshot}
-use Rattle.persist_app.proofs.Views.{advances_since, append_ok, left_keeps, reader_joins, writer_joins}
+use Rattle.persist_app.proofs.Quietly.{quiet_view}
+use Rattle.persist_app.proofs.Refused.{scan_absent, scan_listen, scan_since, scan_snapshot}
+use Rattle.persist_app.proofs.Views.{advances_since, left_keeps}
 use Rattle.persist_app.proofs.SessionLaws.{all_quiet}
 
 -- ---- reads

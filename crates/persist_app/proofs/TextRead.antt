@@ -28,12 +28,12 @@ pub fault_had : (left now : Option (List ℕ)) (text : List ℕ) (number : ℕ) 
 fault_had None now text number took fault = (text, tt, fault)
 fault_had (Some whole) now text number took fault =
     ⊎_elim (λ (short : length text < MAX_BYTES + 1). (text, all_had (MAX_BYTES + 1) (Some whole) now text took short, fault)) (λ
-        (long : MAX_BYTES + 1 ≤ length text).
+    (long : MAX_BYTES + 1 ≤ length text).
     let full : length text ≡ MAX_BYTES + 1 = omega (arith, took.few) in
     let front : take (MAX_BYTES + 1) whole ≡ text = ap (take (MAX_BYTES + 1)) took.taken.1 ∙ take_at text took.taken.0
-        (MAX_BYTES + 1) full in
+    (MAX_BYTES + 1) full in
     (whole, refl, fault_in_front whole number (subst (λ t. IsFirstFault t number) (sym front) fault))) (cases_lt (length text)
-        (MAX_BYTES + 1))
+    (MAX_BYTES + 1))
 
 -- a text that spells a feed is short, so it was read to its end
 feed_read : (left now : Option (List ℕ)) (text : List ℕ) (feed : List FeedLine) → TakesAll (MAX_BYTES + 1) left now text
@@ -46,12 +46,18 @@ feed_read left now text feed took spells =
 pub run_from_text : (ending : Ending) (told told_now : Option History) (left now : Option (List ℕ)) (text : List ℕ)
     (taken taken_now : Option (List ℕ)) (reads reads_now puts puts_now : ℕ)
     → TakesAll (MAX_BYTES + 1) left now text → AnswersText ending told told_now text taken taken_now puts puts_now
-        → EndsRun ending told told_now left now reads reads_now taken taken_now puts puts_now
+    → EndsRun ending told told_now left now reads reads_now taken taken_now puts puts_now
 run_from_text endings.Complete told told_now left now text taken taken_now reads reads_now puts puts_now took answered =
     let short : length text < MAX_BYTES + 1 = omega (arith, answered.1.few) in
     record {
-      read = record { text = text; had = all_had
-          (MAX_BYTES + 1) left now text took short; end = took.end short; feed = answered.0; spells = answered.1 };
+      read = record {
+        text = text;
+        had = all_had
+            (MAX_BYTES + 1) left now text took short;
+        end = took.end short;
+        feed = answered.0;
+        spells = answered.1;
+      };
       written = answered.2;
     }
 run_from_text endings.NoCommand told told_now left now text taken taken_now reads reads_now puts puts_now took answered = absurd answered
@@ -73,7 +79,7 @@ pub run_complete : (words : List (List ℕ)) (ending : Ending) (told told_now : 
     (reads reads_now : ℕ)
     (taken between taken_now : Option (List ℕ)) (puts puts_now : ℕ) →
     Performs words ending told told_now left now reads reads_now taken between puts puts_now → ending ≡ endings.Complete → taken_now
-        ≡ between →
+    ≡ between →
     IsRun words × RunsPlainly told told_now left now taken taken_now
 run_complete words ending told told_now left now reads reads_now taken between taken_now puts puts_now performed is same =
     let done = subst (λ e. Performs words e told told_now left now reads reads_now taken between puts puts_now) is performed in
@@ -83,7 +89,7 @@ run_complete words ending told told_now left now reads reads_now taken between t
 pub line_refused : (words : List (List ℕ)) (ending : Ending) (told told_now : Option History) (number : ℕ) (left now : Option (List ℕ))
     (reads reads_now : ℕ) (taken between taken_now : Option (List ℕ)) (puts puts_now : ℕ)
     → Performs words ending told told_now left now reads reads_now taken between puts puts_now → ending ≡ endings.BadLine number
-        → Gains between taken_now (line_fault_text number) → IsRun words × RefusesLine left taken taken_now
+    → Gains between taken_now (line_fault_text number) → IsRun words × RefusesLine left taken taken_now
 line_refused words ending told told_now number left now reads reads_now taken between taken_now puts puts_now performed is written =
     let stopped = subst (λ e. Performs words e told told_now left now reads reads_now taken between puts puts_now) is performed in (
       stopped.0,

@@ -15,11 +15,11 @@ returns-clause-complete g c =
     let src = c.perform-ending.new.src in
     let out = c.perform-ending.new.out in
     let performed = subst (λ words. Performs words c.perform-ending.result told told_now (left c.args.src.now) (left src)
-        (faults c.args.src.now) (faults src) (taken c.args.out.now) (taken out) (puts c.args.out.now) (puts out)) (ap
-        (map string_bytes) c.deref.ensures.value) c.perform-ending.ensures.ends in
+    (faults c.args.src.now) (faults src) (taken c.args.out.now) (taken out) (puts c.args.out.now) (puts out)) (ap
+    (map string_bytes) c.deref.ensures.value) c.perform-ending.ensures.ends in
     run_complete (map string_bytes c.args.words.now.items) c.perform-ending.result told told_now (left c.args.src.now) (left src)
-        (faults c.args.src.now) (faults src)
-        (taken c.args.out.now) (taken out) (taken c.finish.new.out) (puts c.args.out.now) (puts out) performed finished.0 finished.1
+    (faults c.args.src.now) (faults src)
+    (taken c.args.out.now) (taken out) (taken c.finish.new.out) (puts c.args.out.now) (puts out) performed finished.0 finished.1
 
 pub returns-clause-line : goal.returns-clause-line
 returns-clause-line g c =
@@ -33,8 +33,8 @@ returns-clause-line g c =
     let src = c.perform-ending.new.src in
     let out = c.perform-ending.new.out in
     let performed = subst (λ words. Performs words c.perform-ending.result told told_now (left c.args.src.now) (left src)
-        (faults c.args.src.now) (faults src) (taken c.args.out.now) (taken out) (puts c.args.out.now) (puts out)) (ap
-        (map string_bytes) c.deref.ensures.value) c.perform-ending.ensures.ends in
+    (faults c.args.src.now) (faults src) (taken c.args.out.now) (taken out) (puts c.args.out.now) (puts out)) (ap
+    (map string_bytes) c.deref.ensures.value) c.perform-ending.ensures.ends in
     line_refused (map string_bytes c.args.words.now.items) c.perform-ending.result told told_now finished.0 (left c.args.src.now)
-        (left src) (faults c.args.src.now) (faults src) (taken c.args.out.now) (taken out) (taken c.finish.new.out)
-        (puts c.args.out.now) (puts out) performed finished.1 finished.2
+    (left src) (faults c.args.src.now) (faults src) (taken c.args.out.now) (taken out) (taken c.finish.new.out)
+    (puts c.args.out.now) (puts out) performed finished.1 finished.2
