@@ -5,6 +5,8 @@ pub mod Views
 pub mod Refused
 pub mod DriveLaws
 pub mod SessionLaws
+pub mod WriteLaws
+pub mod ReadLaws
 pub mod ReplyLaws
 pub mod RunLaws
 pub mod TextRead
