@@ -8,3 +8,5 @@ pub mod SessionLaws
 pub mod ReplyLaws
 pub mod RunLaws
 pub mod TextRead
+pub mod DiskOpenings
+pub mod DiskEndings

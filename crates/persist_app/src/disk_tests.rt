@@ -38,7 +38,7 @@ struct Came {
     disk: MemDisk,
 }
 
-fn came(alloc: Global, feed: &[u8], disk: MemDisk) -> Result<Came, Fail> {
+fn run_over(alloc: Global, feed: &[u8], disk: MemDisk) -> Result<Came, Fail> {
     let mut words = Vec::new(alloc);
     words.push(String::from_str(alloc, "run")?)?;
     let mut source = MemSource::new(feed.to_vec(alloc)?, NumberList::new(alloc));
@@ -66,10 +66,10 @@ fn came(alloc: Global, feed: &[u8], disk: MemDisk) -> Result<Came, Fail> {
 #[test]
 fn a_file_is_opened_again(rt: HostRuntime) -> Result<(), Fail> {
     let alloc = rt.alloc();
-    let first = came(alloc, FEED, disk(alloc, &[], None)?)?;
+    let first = run_over(alloc, FEED, disk(alloc, &[], None)?)?;
     assert_eq!(rt; (first.status, first.stored), (0, true));
     assert_eq!(rt; first.written.as_slice(), REPLIES);
-    let later = came(alloc, LATER_FEED, first.disk)?;
+    let later = run_over(alloc, LATER_FEED, first.disk)?;
     assert_eq!(rt; (later.status, later.stored), (0, true));
     assert_eq!(rt; later.written.as_slice(), LATER_REPLIES);
     Ok(())
@@ -83,7 +83,7 @@ fn a_disk_that_is_not_opened_says_why(rt: HostRuntime) -> Result<(), Fail> {
         ("a byte", [0].as_slice(), None, 13, b"not a store\n".as_slice()),
         ("a tag of no change", DAMAGED.as_slice(), None, 15, b"damaged at 8\n".as_slice()),
     ] {
-        let got = came(alloc, FEED, disk(alloc, bytes, fails)?)?;
+        let got = run_over(alloc, FEED, disk(alloc, bytes, fails)?)?;
         assert_eq!(rt; (got.status, got.stored), (status, false), "{name}");
         assert_eq!(rt; got.written.as_slice(), written, "{name}");
     }

@@ -28,7 +28,7 @@ impl Arguments {
 }
 
 // The arguments without the program's name.
-fn arguments(rt: &(impl Env + AllocGlobal), alloc: Global) -> io::Result<Arguments> {
+fn read_arguments(rt: &(impl Env + AllocGlobal), alloc: Global) -> io::Result<Arguments> {
     let mut arguments = Arguments::none(alloc);
     for word in env::args(rt)?.skip(1) {
         if arguments.path.is_none() {
@@ -43,7 +43,7 @@ fn arguments(rt: &(impl Env + AllocGlobal), alloc: Global) -> io::Result<Argumen
 fn main(rt: HostRuntime) -> ExitCode {
     let alloc = rt.alloc();
     let mut sink = WriterSink::new(rt.stdout());
-    let Arguments { path, words } = match arguments(&rt, alloc) {
+    let Arguments { path, words } = match read_arguments(&rt, alloc) {
         Ok(arguments) => arguments,
         Err(error) if error.kind() == ErrorKind::OutOfMemory => {
             return match put_all(&mut sink, b"memory\n") {

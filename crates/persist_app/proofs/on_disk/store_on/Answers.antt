@@ -1,0 +1,13 @@
+use Rattle.std.proofs.Common.{ℕ}
+use Rattle.store_file.specs.Causes.{IsCauseOf}
+use Rattle.persist_app.proofs.DiskOpenings.{cause_before, if_err_so}
+use Rattle.persist_app.proofs.on_disk.store_on.Goals as goal
+
+pub returns-in-Ok-clause-fault : goal.returns-in-Ok-clause-fault
+returns-in-Ok-clause-fault g c =
+    let old = g.D.Disk.history c.args.disk in
+    let mid = g.D.Disk.history c.len.new.self in
+    let before = g.D.Disk.faults c.args.disk in
+    let then_ = g.D.Disk.faults c.len.new.self in
+    if_err_so (λ fail. IsCauseOf mid then_ (g.D.Disk.faults fail.disk) fail.why) (λ fail. IsCauseOf old before (g.D.Disk.faults fail.disk) fail.why) c.open.result
+    (λ fail cause. cause_before old mid before then_ (g.D.Disk.faults fail.disk) fail.why c.in-Ok.ensures.ok c.len.ensures.cause.later cause) c.open.ensures.fault
