@@ -1,7 +1,19 @@
 use Rattle.std.proofs.Common.{ℕ}
+use Rattle.std.specs.Option.{ForSome}
 use Rattle.store_file.specs.Causes.{IsCauseOf}
-use Rattle.persist_app.proofs.DiskOpenings.{cause_before, if_err_so}
+use Rattle.store_file.specs.FileStores.{history_of}
+use Rattle.store_file.specs.Replays.{Stands}
+use Rattle.persist_app.specs.DiskLefts.{BeginsWhereTold}
+use Rattle.persist_app.proofs.DiskOpenings.{begins_held, cause_before, if_err_so, if_ok_so}
 use Rattle.persist_app.proofs.on_disk.store_on.Goals as goal
+
+pub returns-in-Ok-clause-start : goal.returns-in-Ok-clause-start
+returns-in-Ok-clause-start g c =
+    let old = g.D.Disk.history c.args.disk in
+    let mid = g.D.Disk.history c.len.new.self in
+    if_ok_so (λ store. ForSome mid (λ h. Stands (history_of store).start h.now.bytes)) (λ store. BeginsWhereTold old (history_of store).start) c.open.result
+    (λ store stands. begins_held old mid c.in-Ok.field-0 (history_of store).start c.in-Ok.ensures.length c.in-Ok.field-0-test c.in-Ok.ensures.ok stands)
+    c.open.ensures.start
 
 pub returns-in-Ok-clause-fault : goal.returns-in-Ok-clause-fault
 returns-in-Ok-clause-fault g c =
