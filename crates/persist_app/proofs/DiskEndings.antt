@@ -1,5 +1,5 @@
 -- How a command over a store that was just opened ends.
-use Rattle.std.proofs.Common.{◌≡◌, ℕ, ◌≤◌, Bool, true, false, Option, Some, List, [], sym, ap, subst, ◌∙◌}
+use Rattle.std.proofs.Common.{◌≡◌, ℕ, ◌≤◌, Bool, true, false, Option, Some, List, [], refl, sym, ap, subst, ◌∙◌}
 use Rattle.causes.specs.Causes.{Rose}
 use Rattle.store_core.specs.Stores.{Stored}
 use Rattle.store_core.specs.Histories.{History}
@@ -39,12 +39,12 @@ ends_since words status told told_now early failed failed_now left left_now read
 history_is : (h k : History) → Some h ≡ Some k → h ≡ k
 history_is h k e = cc
 
-same_history : (s t : Stored) (h : History) → h.start ≡ t → h.trail ≡ [] → s ≡ t → h ≡ record { start = s; trail = [] }
-same_history s t h start trail same = cc
+same_history : (s : Stored) (h : History) → h.start ≡ s → h.trail ≡ [] → h ≡ record { start = s; trail = [] }
+same_history s h start trail = λ i. record { start = start i; trail = trail i }
 
 -- a history without calls is the start of one that has grown from it
 pub started : (h k : History) → h.trail ≡ [] → Extends (Some h) (Some k) → Some h ≡ Some (record { start = k.start; trail = [] })
-started h k trail (after, is, grown) = ap Some (same_history k.start h.start h refl trail (ap (λ (x : History). x.start) (history_is k after is) ∙ grown.start))
+started h k trail (after, is, grown) = ap Some (same_history k.start h (sym (ap (λ (x : History). x.start) (history_is k after is) ∙ grown.start)) trail)
 
 unshut : (shut : Bool) (before now : ℕ) → (shut ≡ true → Rose before now) → (Rose before now → ⊥) → shut ≡ false
 unshut true before now rose none = absurd (none (rose refl))

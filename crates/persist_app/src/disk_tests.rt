@@ -8,8 +8,11 @@ use std::test::Fail;
 use store_core::Bytes;
 
 const FEED: &[u8] = b"append 0 10\n3 1 apple\n4 1 pear\n7 -1 apple\n.\nsnapshot 5\nsnapshot 7\n";
+
 const REPLIES: &[u8] = b"ok\n1 apple\n1 pear\n.\n1 pear\n.\n";
+
 const LATER_FEED: &[u8] = b"snapshot 7\nappend 0 10\n.\n";
+
 const LATER_REPLIES: &[u8] = b"1 pear\n.\nmismatch 10\n";
 
 // A journal whose one record, at place 8, has a tag that no change has.
@@ -79,9 +82,27 @@ fn a_file_is_opened_again(rt: HostRuntime) -> Result<(), Fail> {
 fn a_disk_that_is_not_opened_says_why(rt: HostRuntime) -> Result<(), Fail> {
     let alloc = rt.alloc();
     for (name, bytes, fails, status, written) in [
-        ("a failing disk", [].as_slice(), Some(0), 14, b"disk failed\n".as_slice()),
-        ("a byte", [0].as_slice(), None, 13, b"not a store\n".as_slice()),
-        ("a tag of no change", DAMAGED.as_slice(), None, 15, b"damaged at 8\n".as_slice()),
+        (
+            "a failing disk",
+            [].as_slice(),
+            Some(0),
+            14,
+            b"disk failed\n".as_slice(),
+        ),
+        (
+            "a byte",
+            [0].as_slice(),
+            None,
+            13,
+            b"not a store\n".as_slice(),
+        ),
+        (
+            "a tag of no change",
+            DAMAGED.as_slice(),
+            None,
+            15,
+            b"damaged at 8\n".as_slice(),
+        ),
     ] {
         let got = run_over(alloc, FEED, disk(alloc, bytes, fails)?)?;
         assert_eq!(rt; (got.status, got.stored), (status, false), "{name}");

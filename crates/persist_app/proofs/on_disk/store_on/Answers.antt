@@ -12,7 +12,7 @@ returns-in-Ok-clause-start g c =
     let old = g.D.Disk.history c.args.disk in
     let mid = g.D.Disk.history c.len.new.self in
     if_ok_so (λ store. ForSome mid (λ h. Stands (history_of store).start h.now.bytes)) (λ store. BeginsWhereTold old (history_of store).start) c.open.result
-    (λ store stands. begins_held old mid c.in-Ok.field-0 (history_of store).start c.in-Ok.ensures.length c.in-Ok.field-0-test c.in-Ok.ensures.ok stands)
+    (λ store stands. begins_held old mid c.in-Ok.field-0 (history_of store).start c.in-Ok.ensures.length c.in-Ok.field-0-test.1 c.in-Ok.ensures.ok stands)
     c.open.ensures.start
 
 pub returns-in-Ok-clause-fault : goal.returns-in-Ok-clause-fault
