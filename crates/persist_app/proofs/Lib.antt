@@ -10,3 +10,5 @@ pub mod ReadLaws
 pub mod ReplyLaws
 pub mod RunLaws
 pub mod TextRead
+pub mod DiskOpenings
+pub mod DiskEndings
