@@ -5,7 +5,7 @@ use Rattle.feed_text.specs.declared.limits.TheConstants.{MAX_BYTES}
 use Rattle.feed_text.specs.Streams.{Gains, ReadsUpTo}
 use Rattle.store_core.specs.Histories.{History}
 use Rattle.driving.specs.StoreTurns.{Extends, StoreFailed}
-use Rattle.persist_app.specs.Endings.{IsRun, IsStatus, RunsPlainly, RefusesLine, NoCollection, FoundFull, FoundSpent, StaysLawful}
+use Rattle.persist_app.specs.Endings.{IsRun, IsStatus, ReadsFeed, RunsPlainly, RefusesLine, NoCollection, FoundFull, FoundSpent, StaysLawful}
 use Rattle.persist_app.specs.Endings.{words_text, input_failed_text}
 
 -- What has become of a store's history and its count of faults, of a source's bytes and its counts of reads and faults, and of a
@@ -19,10 +19,10 @@ pub record EndsPlainly (words : List (List ℕ)) (status : ℕ) (told told_now :
   pub line : status ≡ 3 → IsRun words × RefusesLine left taken taken_now
   pub input : status ≡ 4 → IsRun words × Rose faults faults_now × Gains taken taken_now input_failed_text
   pub output : status ≡ 5 → Rose puts puts_now
-  pub store_failed : status ≡ 6 → StoreFailed told_now failed failed_now
-  pub damaged : status ≡ 9 → NoCollection told told_now
-  pub members_full : status ≡ 10 → FoundFull told told_now
-  pub spent : status ≡ 11 → FoundSpent told told_now
+  pub store_failed : status ≡ 6 → IsRun words × ReadsFeed left left_now × StoreFailed told_now failed failed_now
+  pub damaged : status ≡ 9 → IsRun words × ReadsFeed left left_now × NoCollection told told_now
+  pub members_full : status ≡ 10 → IsRun words × ReadsFeed left left_now × FoundFull told told_now
+  pub spent : status ≡ 11 → IsRun words × ReadsFeed left left_now × FoundSpent told told_now
   pub reading : ReadsUpTo (MAX_BYTES + 1) left left_now reads reads_now
   pub store : Extends told told_now
   pub lawful : StaysLawful told told_now
