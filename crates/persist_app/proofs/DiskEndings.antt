@@ -15,10 +15,11 @@ use Rattle.persist_app.proofs.DiskOpenings.{rose_before}
 
 -- the count that is looked at may be an earlier one
 pub ends_since : (words : List (List ℕ)) (status : ℕ) (told told_now : Option History) (early failed failed_now : ℕ)
-    (left left_now : Option (List ℕ)) (reads reads_now faults faults_now : ℕ) (taken taken_now : Option (List ℕ)) (puts puts_now : ℕ) → early ≤ failed
-    → EndsPlainly words status told told_now failed failed_now left left_now reads reads_now faults faults_now taken taken_now puts puts_now
+    (left left_now : Option (List ℕ)) (reads reads_now faults faults_now : ℕ) (taken taken_now : Option (List ℕ)) (puts puts_now : ℕ)
+    → early ≤ failed → EndsPlainly words status told told_now failed failed_now left left_now reads reads_now faults faults_now taken taken_now puts puts_now
     → EndsPlainly words status told told_now early failed_now left left_now reads reads_now faults faults_now taken taken_now puts puts_now
-ends_since words status told told_now early failed failed_now left left_now reads reads_now faults faults_now taken taken_now puts puts_now le e =
+ends_since words status told told_now early failed failed_now left left_now reads reads_now faults faults_now taken taken_now puts puts_now
+    le e =
     record {
       statuses = e.statuses;
       complete = e.complete;
@@ -44,7 +45,8 @@ same_history s h start trail = λ i. record { start = start i; trail = trail i }
 
 -- a history without calls is the start of one that has grown from it
 pub started : (h k : History) → h.trail ≡ [] → Extends (Some h) (Some k) → Some h ≡ Some (record { start = k.start; trail = [] })
-started h k trail (after, is, grown) = ap Some (same_history k.start h (sym (ap (λ (x : History). x.start) (history_is k after is) ∙ grown.start)) trail)
+started h k trail (after, is, grown) =
+    ap Some (same_history k.start h (sym (ap (λ (x : History). x.start) (history_is k after is) ∙ grown.start)) trail)
 
 unshut : (shut : Bool) (before now : ℕ) → (shut ≡ true → Rose before now) → (Rose before now → ⊥) → shut ≡ false
 unshut true before now rose none = absurd (none (rose refl))
@@ -52,7 +54,8 @@ unshut false before now rose none = refl
 
 module _ {D : Type 0} {G : Ghosts D} where
   -- a store whose disk hasn't failed is what the disk's bytes stand for
-  pub stands_now : (s : FileStore D G) (before now : ℕ) → (is_shut s ≡ true → Rose before now) → (Rose before now → ⊥) → StandsWhereTold (disk_of s) (store_now s)
+  pub stands_now : (s : FileStore D G) (before now : ℕ) → (is_shut s ≡ true → Rose before now) → (Rose before now → ⊥)
+      → StandsWhereTold (disk_of s) (store_now s)
   stands_now s before now rose none h is =
       let shut = unshut (is_shut s) before now rose none in
       keeps_stands (store_now s) (end_of s) h (subst (λ (t : Stored). Keeps t (end_of s) h) (s.replayed shut) (s.kept h is shut))

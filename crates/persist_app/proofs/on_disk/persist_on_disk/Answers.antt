@@ -26,9 +26,11 @@ returns-in-Ok-clause-ends g c =
     let src_now = c.over_file-status.new.src in
     let out_now = c.over_file-status.new.out in
     let ends = c.over_file-status.ensures.ends in
-    ends_since words status (opened last) (told last) (g.D.Disk.faults c.args.disk) (file_faults first) (file_faults last) (left src) (left src_now) (reads src) (reads src_now) (faults src) (faults src_now) (taken out) (taken out_now) (puts out) (puts out_now)
+    ends_since words status (opened last) (told last) (g.D.Disk.faults c.args.disk) (file_faults first) (file_faults last)
+    (left src) (left src_now) (reads src) (reads src_now) (faults src) (faults src_now) (taken out) (taken out_now) (puts out) (puts out_now)
     (at_most (g.D.Disk.faults c.args.disk) (disk_faults first) first.refused c.in-Ok.ensures.later)
-    (subst (λ (t : Option History). EndsPlainly words status t (told last) (file_faults first) (file_faults last) (left src) (left src_now) (reads src) (reads src_now) (faults src) (faults src_now) (taken out) (taken out_now) (puts out) (puts out_now))
+    (subst (λ (t : Option History). EndsPlainly words status t (told last) (file_faults first) (file_faults last)
+    (left src) (left src_now) (reads src) (reads src_now) (faults src) (faults src_now) (taken out) (taken out_now) (puts out) (puts out_now))
     (started (history_of first) (history_of last) c.in-Ok.ensures.trail ends.store) ends)
 
 pub returns-in-Ok-clause-stands : goal.returns-in-Ok-clause-stands

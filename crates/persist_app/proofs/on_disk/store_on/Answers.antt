@@ -11,8 +11,11 @@ pub returns-in-Ok-clause-start : goal.returns-in-Ok-clause-start
 returns-in-Ok-clause-start g c =
     let old = g.D.Disk.history c.args.disk in
     let mid = g.D.Disk.history c.len.new.self in
-    if_ok_so (λ store. ForSome mid (λ h. Stands (history_of store).start h.now.bytes)) (λ store. BeginsWhereTold old (history_of store).start) c.open.result
-    (λ store stands. begins_held old mid c.in-Ok.field-0 (history_of store).start c.in-Ok.ensures.length c.in-Ok.field-0-test.1 c.in-Ok.ensures.ok stands)
+    let length = c.in-Ok.field-0 in
+    if_ok_so (λ store. ForSome mid (λ h. Stands (history_of store).start h.now.bytes))
+    (λ store. BeginsWhereTold old (history_of store).start) c.open.result
+    (λ store stands. begins_held old mid length (history_of store).start c.in-Ok.ensures.length c.in-Ok.field-0-test.1
+    c.in-Ok.ensures.ok stands)
     c.open.ensures.start
 
 pub returns-in-Ok-clause-fault : goal.returns-in-Ok-clause-fault
@@ -21,5 +24,7 @@ returns-in-Ok-clause-fault g c =
     let mid = g.D.Disk.history c.len.new.self in
     let before = g.D.Disk.faults c.args.disk in
     let then_ = g.D.Disk.faults c.len.new.self in
-    if_err_so (λ fail. IsCauseOf mid then_ (g.D.Disk.faults fail.disk) fail.why) (λ fail. IsCauseOf old before (g.D.Disk.faults fail.disk) fail.why) c.open.result
-    (λ fail cause. cause_before old mid before then_ (g.D.Disk.faults fail.disk) fail.why c.in-Ok.ensures.ok c.len.ensures.cause.later cause) c.open.ensures.fault
+    let faults = g.D.Disk.faults in
+    if_err_so (λ fail. IsCauseOf mid then_ (faults fail.disk) fail.why) (λ fail. IsCauseOf old before (faults fail.disk) fail.why)
+    c.open.result (λ fail cause. cause_before old mid before then_ (faults fail.disk) fail.why c.in-Ok.ensures.ok
+    c.len.ensures.cause.later cause) c.open.ensures.fault
