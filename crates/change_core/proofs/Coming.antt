@@ -47,6 +47,7 @@ use Rattle.change_core.specs.declared.outcomes.Outcome.{Outcome}
 use Rattle.change_core.specs.declared.outcomes.Outcome.TheVariants as outcomes
 use Rattle.change_core.specs.Changes.{AsksBefore, ChangesAs, IsAnswerTo, IsChange, IsOfMember, Joins, committed_outcome, full_outcome, is_gone, join_outcome, last_member, member_outcome, number_of, outcome, refused_outcome, since_of}
 use Rattle.change_core.specs.Legality.{ChangeEffect, ChangesAt, JoinedIn, LegalChange}
+use Rattle.change_core.proofs.Forms.{join_form, member_form, refused_as}
 use Rattle.change_core.proofs.Members.{among_now, found_kind, found_stands, kind_back, none_stands, scan_now}
 
 -- ---- why a change is refused
@@ -109,30 +110,6 @@ why kind member s step refusal rules change kinds h = by step change.changes kin
     by (Expire now) is of k = absurd is
     by (Append m token expected upper parts rows weight) is of k = absurd is
     by (Merge m token left right merged) is of k = absurd is
-
--- ---- by its step
-
-join_form : (newest : Option ShardState) (member : ℕ) (step : Transition) (refusal : Refusal) → Joins step →
-    refused_outcome newest member step refusal ≡ join_outcome newest refusal
-join_form newest member (Join kind now lease) refusal j = refl
-join_form newest member Init refusal j = absurd j
-join_form newest member (Leave m) refusal j = absurd j
-join_form newest member (Renew m now) refusal j = absurd j
-join_form newest member (Advance m to) refusal j = absurd j
-join_form newest member (Expire now) refusal j = absurd j
-join_form newest member (Append m token expected upper parts rows weight) refusal j = absurd j
-join_form newest member (Merge m token left right merged) refusal j = absurd j
-
-member_form : (newest : Option ShardState) (member : ℕ) (step : Transition) (refusal : Refusal) → IsOfMember step →
-    refused_outcome newest member step refusal ≡ member_outcome newest member refusal
-member_form newest member (Join kind now lease) refusal of = absurd of
-member_form newest member Init refusal of = refl
-member_form newest member (Leave m) refusal of = refl
-member_form newest member (Renew m now) refusal of = refl
-member_form newest member (Advance m to) refusal of = refl
-member_form newest member (Expire now) refusal of = refl
-member_form newest member (Append m token expected upper parts rows weight) refusal of = refl
-member_form newest member (Merge m token left right merged) refusal of = refl
 
 -- ---- at its place
 
@@ -324,52 +301,9 @@ module _ (member : ℕ) (t new : Trying) (r : Reply) (sound : trying.IsSound t) 
       by (Merge m token left right merged) is = k.commits
 
   refused_effect : (refusal : Refusal) → CommitsNone r × IsShown t.loader.shard (trying.call_of t) r →
-      (step : Transition) → Did (refused_outcome new.loader.cached member step refusal)
-  refused_effect refusal h step = by step
-    where
-      gone : (b : Bool) (n : ℕ) → Did (cond b (outcomes.Gone n) (outcomes.Strange n))
-      gone true n = h
-      gone false n = h
-
-      full : (b : Bool) (n : ℕ) → Did (cond b outcomes.Spent (outcomes.Full n))
-      full true n = h
-      full false n = h
-
-      join : (x : Refusal) → Did (join_outcome new.loader.cached x)
-      join (refusals.MembersFull count) = full (eqb (number_of new.loader.cached) most) (number_of new.loader.cached)
-      join (refusals.Back since) = h
-      join refusals.Memory = h
-      join refusals.Shape = h
-      join refusals.Spent = h
-      join refusals.NoMember = h
-      join (refusals.TokenOld last) = h
-      join (refusals.UpperIs current) = h
-      join (refusals.Heavy weight) = h
-      join refusals.NotPresent = h
-      join refusals.NotDue = h
-
-      other : (x : Refusal) → Did (member_outcome new.loader.cached member x)
-      other refusals.NoMember = gone (is_gone member new.loader.cached) (number_of new.loader.cached)
-      other (refusals.MembersFull count) = h
-      other (refusals.Back since) = h
-      other refusals.Memory = h
-      other refusals.Shape = h
-      other refusals.Spent = h
-      other (refusals.TokenOld last) = h
-      other (refusals.UpperIs current) = h
-      other (refusals.Heavy weight) = h
-      other refusals.NotPresent = h
-      other refusals.NotDue = h
-
-      by : (x : Transition) → Did (refused_outcome new.loader.cached member x refusal)
-      by (Join kind now lease) = join refusal
-      by Init = other refusal
-      by (Leave m) = other refusal
-      by (Renew m now) = other refusal
-      by (Advance m to) = other refusal
-      by (Expire now) = other refusal
-      by (Append m token expected upper parts rows weight) = other refusal
-      by (Merge m token left right merged) = other refusal
+      Did (refused_outcome new.loader.cached member new.step refusal)
+  refused_effect refusal h =
+      refused_as Did new.loader.cached member new.step refusal h (λ v. h) (λ v. h) (λ since. h) (λ v. h)
 
   pub change_effect : (tried : Tried) → trying.Moves t r new tried → Did (outcome new member tried)
   change_effect tried moves = by tried moves (tried_effect t new r tried sound moves)
@@ -380,6 +314,6 @@ module _ (member : ℕ) (t new : Trying) (r : Reply) (sound : trying.IsSound t) 
       by tries.Again m k = inl k
       by tries.Goes m k = inl k
       by tries.Fault m k = k
-      by (tries.Refused refusal) m k = refused_effect refusal (k, stop_shown t new r (tries.Refused refusal) tt m) new.step
+      by (tries.Refused refusal) m k = refused_effect refusal (k, stop_shown t new r (tries.Refused refusal) tt m)
       by tries.Spent m k = (k, stop_shown t new r tries.Spent tt m)
       by (tries.Damaged damage) m k = k
