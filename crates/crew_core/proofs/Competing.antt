@@ -1,0 +1,277 @@
+-- Each entry of a worker leaves the collection, or appends to it the next of the feed's appends. Entries go newest first.
+use Rattle.std.proofs.Common.{◌≡◌, ℕ, ◌+◌, true, false, cond, Option, Some, None, List, [], ◌∷◌, ◌++◌, inl, inr, refl, sym, ap, subst}
+use Rattle.std.proofs.Common.{◌∙◌, arith, append_assoc, append-nil}
+use Rattle.std.specs.Prelude.{◌==◌, max, reverse}
+use Rattle.std.specs.List.{AllByRecursion}
+use Rattle.std.proofs.lemmas.List.{reverse-reverse}
+use Rattle.std.proofs.lemmas.Bool.Decides.{nat_tests}
+use Rattle.update_core.specs.declared.updates.Update.{Update}
+use Rattle.update_core.specs.declared.appends.FeedAppend.{FeedAppend}
+use Rattle.update_core.specs.Updates.{cons, weight_of}
+use Rattle.update_core.specs.Collections.{Collection as PlainCollection, extended}
+use Rattle.store_core.specs.declared.shards.ShardId.{ShardId}
+use Rattle.store_core.specs.declared.calls.Call.TheVariants as calls
+use Rattle.store_core.specs.declared.entries.Entry.{Entry}
+use Rattle.store_core.specs.Stores.{Stored}
+use Rattle.store_core.specs.Histories.{History}
+use Rattle.store_core.specs.Ports.{Answered}
+use Rattle.store_core.specs.Newest.{replay_back, mine_back}
+use Rattle.store_core.proofs.NewestLaws.{replay-newest, mine-newest}
+use Rattle.state_core.specs.declared.kinds.Kind.TheVariants.{Writer}
+use Rattle.state_core.specs.declared.members.Member.{Member}
+use Rattle.state_core.specs.declared.transitions.Transition.{Transition}
+use Rattle.state_core.specs.declared.transitions.Transition.TheVariants.{Join, Leave}
+use Rattle.state_core.specs.States.{ShardState, SinceIs, greater_of, is_reader, least_since, or_least}
+use Rattle.state_core.specs.Steps.{Applies, init, without}
+use Rattle.state_core.specs.VersionReading.{version_in}
+use Rattle.state_core.proofs.ListLemmas.{bool_cases}
+use Rattle.history_core.specs.Costs.{commits_on}
+use Rattle.history_core.specs.Discipline.{LawfulBack}
+use Rattle.history_core.specs.Laws.{LastIs}
+use Rattle.history_core.specs.Legal.{AcceptedAt, collection_in}
+use Rattle.history_core.specs.Members.{JoinedAs}
+use Rattle.history_core.specs.Placing.{placed}
+use Rattle.history_core.specs.Stands.{StandsFor, accepted, appended_by}
+use Rattle.history_core.proofs.Bases.{none_there}
+use Rattle.history_core.proofs.Endings.{last_law}
+use Rattle.history_core.proofs.Entries.{lawful_older}
+use Rattle.history_core.proofs.OwnMembers.{kind_law}
+use Rattle.history_core.proofs.Quiet.{Quiet, last_stays, quiet_back}
+use Rattle.history_core.proofs.StateFacts.{state_rules}
+use Rattle.load_core.proofs.Gaining.{lawful_forth}
+use Rattle.crew_core.specs.Competing.{HasAppended, HasCollection}
+use Rattle.crew_core.specs.Feeds.{FollowOn, from_upper, rows_of, weight_of_all}
+use Rattle.crew_core.specs.Working.{CarriesWorkers, IsOneOf, IsWorkersEntry, IsWorkersStep}
+use Rattle.crew_core.proofs.Accepting.{storers_law}
+use Rattle.crew_core.proofs.Commits.{Begun, Stepped, commits_there, what_commits}
+use Rattle.crew_core.proofs.FeedLaws.{end_on, found_at, rest_from, rows_on, weight_on}
+
+-- ---- since stays where a writer leaves
+
+least_without : (n : ℕ) (ms : List Member) → AllByRecursion (λ m. m.number ≡ n → m.kind ≡ Writer) ms →
+    least_since (without n ms) ≡ least_since ms
+least_without n [] all = refl
+least_without n (m ∷ ms) all = elim (bool_cases (m.number == n)) [
+  | inl t ↦
+      let kind : m.kind ≡ Writer = all.0 (same m.number n t) in
+      let no : is_reader m.kind ≡ false = ap is_reader kind in
+      rw (t, no) (least_without n ms all.1)
+  | inr t ↦ rw t (ap (λ (o : Option ℕ). cond (is_reader m.kind) (or_least o m.since) o) (least_without n ms all.1))
+]
+  where
+    same : (a b : ℕ) → (a == b) ≡ true → a ≡ b
+    same a b h = grind (arith, nat_tests)
+
+since_same : (o : Option ℕ) (since : ℕ) → SinceIs o since → greater_of since o ≡ since
+since_same None since h = refl
+since_same (Some n) since h = let e : since ≡ n = h in rw e (itself n)
+  where
+    itself : (a : ℕ) → max a a ≡ a
+    itself a = omega arith
+
+-- ---- the collection
+
+abbrev make : List Update → ℕ → Option ℕ → ℕ → PlainCollection
+make us since upper weight = record { updates = us; since = since; upper = upper; weight = weight }
+
+alike : (us us2 : List Update) (s t : ShardState) → us ≡ us2 → t.since ≡ s.since → t.upper ≡ s.upper → t.weight ≡ s.weight →
+    collection_in us s ≡ collection_in us2 t
+alike us us2 s t a b c d = go us us2 s.since t.since s.upper t.upper s.weight t.weight a (sym b) (sym c) (sym d)
+  where
+    go : (us us2 : List Update) (a b : ℕ) (c d : Option ℕ) (e f : ℕ) → us ≡ us2 → a ≡ b → c ≡ d → e ≡ f → make us a c e ≡ make us2 b d f
+    go us us2 a b c d e f p q r s = cc
+
+same_version : (o : Option (ShardState × Transition)) (s t : ShardState) (x y : Transition) → o ≡ Some (s, x) → o ≡ Some (t, y) →
+    (s ≡ t) × (x ≡ y)
+same_version o s t x y h g = let e : (s, x) ≡ (t, y) = cc in
+    (ap (λ (p : ShardState × Transition). p.0) e, ap (λ (p : ShardState × Transition). p.1) e)
+
+-- what a step leaves
+record Leaves (s : ShardState) (x : Transition) (t : ShardState) : Type 0 where
+  pub since : t.since ≡ s.since
+  pub upper : t.upper ≡ s.upper
+  pub weight : t.weight ≡ s.weight
+
+join_leaves : (s : ShardState) (x : Transition) (t : ShardState) → x ≡ Join Writer 0 0 → Applies s x t → Leaves s x t
+join_leaves s x t is a = let b = subst (λ (y : Transition). Applies s y t) is a in record {
+  since = ap (λ (u : ShardState). u.since) b.makes.effect;
+  upper = ap (λ (u : ShardState). u.upper) b.makes.effect;
+  weight = ap (λ (u : ShardState). u.weight) b.makes.effect;
+}
+
+leave_leaves : (s : ShardState) (x : Transition) (t : ShardState) (member : ℕ) → x ≡ Leave member →
+    SinceIs (least_since s.members) s.since →
+    AllByRecursion (λ m. m.number ≡ member → m.kind ≡ Writer) s.members → Applies s x t → Leaves s x t
+leave_leaves s x t member is since kinds a =
+    let b = subst (λ (y : Transition). Applies s y t) is a in
+    let least = least_without member s.members kinds in
+    record {
+      since = ap (λ (u : ShardState). u.since) b.makes.effect ∙ ap (greater_of s.since) least
+          ∙ since_same (least_since s.members) s.since since;
+      upper = ap (λ (u : ShardState). u.upper) b.makes.effect;
+      weight = ap (λ (u : ShardState). u.weight) b.makes.effect;
+    }
+
+-- a history of entries that go newest first
+abbrev turned : Stored → List Entry → History
+turned start es = record { start = start; trail = reverse es }
+
+-- a member that a client joined as a writer is one where it stands
+writer_kind : (start : Stored) (shard : ShardId) (list : List Update) (es : List Entry) → StandsFor start shard list →
+    LawfulBack start es → (c member : ℕ) →
+    JoinedAs Writer (mine_back start es c) shard member → (n : ℕ) (s : ShardState) → LastIs (replay_back start es) shard n s →
+    AllByRecursion (λ m. m.number ≡ member → m.kind ≡ Writer) s.members
+writer_kind start shard list es st l c member joined n s last =
+    let h = turned start es in
+    let back : reverse h.trail ≡ es = reverse-reverse es in
+    kind_law shard list h st (lawful_forth h (subst (LawfulBack start) (sym back) l)) Writer c member
+    (subst (λ (own : List Answered). JoinedAs Writer own shard member)
+    (sym (mine-newest h c ∙ ap (λ (fs : List Entry). mine_back start fs c) back)) joined) n s
+    (subst (λ (q : Stored). LastIs q shard n s) (sym (replay-newest start h.trail ∙ ap (replay_back start) back)) last)
+
+module _ (appends : List FeedAppend) (follow : FollowOn (Some 0) appends) (shard : ShardId) (list : List Update)
+    (first : PlainCollection) where
+  -- what the collection has come to
+  pub record Come (start : Stored) (es : List Entry) : Type 0 where
+    pub now : PlainCollection
+    pub has : HasCollection list start shard es now
+    pub appended : HasAppended appends first now
+
+  -- nothing has come
+  pub come_none : (start : Stored) (es : List Entry) → HasCollection list start shard es first → Come start es
+  come_none start es has = record {
+    now = first;
+    has = has;
+    appended = record {
+      done = [];
+      rest = from_upper first.upper appends;
+      split = refl;
+      updates = sym (append-nil first.updates);
+      upper = refl;
+      weight = omega arith;
+      since = refl;
+    };
+  }
+
+  module _ (start : Stored) (es : List Entry) (e : Entry) (st : StandsFor start shard list) (l : LawfulBack start (e ∷ es)) where
+    abbrev own : List Answered
+    own = mine_back start es e.client
+
+    -- the entry commits nothing
+    idle : commits_on shard (replay_back start es) e.call e.outcome ≡ false → Come start es → Come start (e ∷ es)
+    idle h c = record { now = c.now; has = on c.has; appended = c.appended }
+      where
+        q : Quiet start shard list (e ∷ []) es
+        q = quiet_back start shard list (e ∷ []) es (rw h refl)
+
+        on : HasCollection list start shard es c.now → HasCollection list start shard (e ∷ es) c.now
+        on (inl k) = inl (q.keeps.none k.0, q.accepts ∙ k.1, k.2)
+        on (inr (n, s, last, is)) =
+            inr (
+              n,
+              s,
+              last_stays shard (replay_back start es) (replay_back start (e ∷ es)) q.keeps n s last,
+              is ∙ ap (λ (us : List Update). collection_in us s) (sym q.accepts),
+            )
+
+    -- it commits the first version
+    begun : Begun shard list start e es → Come start es → Come start (e ∷ es)
+    begun b c = record { now = c.now; has = on c.has; appended = c.appended }
+      where
+        on : HasCollection list start shard es c.now → HasCollection list start shard (e ∷ es) c.now
+        on (inl k) = inr (0, init shard, b.now, k.2 ∙ ap (λ (us : List Update). collection_in us (init shard)) (sym (b.same ∙ k.1)))
+        on (inr (n, s, last, is)) = absurd (b.none n s last)
+
+    -- the collection before a step
+    before_step : (n : ℕ) (s : ShardState) → LastIs (replay_back start es) shard n s → (now : PlainCollection) →
+        HasCollection list start shard es now → now ≡ collection_in (accepted shard list start es) s
+    before_step n s last now (inl k) = absurd (none_there shard ((replay_back start es).logs shard) n s k.0 last.1)
+    before_step n s last now (inr (m, t, other, is)) =
+        is ∙ ap (collection_in (accepted shard list start es)) (last_law (replay_back start es) shard m n t s other last).1
+
+    -- it commits a step that leaves the collection
+    leaves : (s : Stepped shard list start e es) → Leaves s.from s.step s.to →
+        appended_by (replay_back start es) (Some (s.to, s.step)) ≡ [] → Come start es → Come start (e ∷ es)
+    leaves s k none c = record {
+      now = c.now;
+      has = inr (
+        s.number + 1,
+        s.to,
+        s.now,
+        before_step s.number s.from s.last c.now c.has
+            ∙ alike (accepted shard list start es) (accepted shard list start (e ∷ es)) s.from s.to
+            (sym (s.grows ∙ ap (λ (us : List Update). accepted shard list start es ++ us) none
+            ∙ append-nil (accepted shard list start es))) k.since k.upper k.weight,
+      );
+      appended = c.appended;
+    }
+
+    -- it commits one of the appends
+    appends_one : (s : Stepped shard list start e es) → IsOneOf appends own s.step → Come start es → Come start (e ∷ es)
+    appends_one s o c = record { now = a.after; has = inr a.after_is; appended = on }
+      where
+        a : AcceptedAt list start shard o.append.rows o.append.lower o.append.upper (placed e es)
+        a = storers_law appends shard list start e es st l s.commit s.number s.to s.step s.expected s.written o
+
+        at : s.from.upper ≡ Some o.append.lower
+        at = (subst (λ (y : Transition). Applies s.from y s.to) o.step_is s.applies).makes.fits
+
+        now_is : c.now ≡ collection_in (accepted shard list start es) s.from
+        now_is = before_step s.number s.from s.last c.now c.has
+
+        same : a.before ≡ c.now
+        same = before_step s.number s.from s.last a.before (inr a.before_is) ∙ sym now_is
+
+        upper_at : c.now.upper ≡ Some o.append.lower
+        upper_at = ap (λ (d : PlainCollection). d.upper) now_is ∙ at
+
+        effect : a.after ≡ extended c.now o.append.rows o.append.upper (weight_of o.append.rows)
+        effect = a.effect ∙ ap (λ (d : PlainCollection). extended d o.append.rows o.append.upper (weight_of o.append.rows)) same
+
+        on : HasAppended appends first a.after
+        on =
+            let h = c.appended in
+            let found = found_at (Some 0) o.append appends follow o.among in
+            let rest_is : h.rest ≡ o.append ∷ found.0 =
+            sym (rest_from (Some 0) first.upper h.done h.rest appends follow h.split)
+            ∙ ap (λ (u : Option ℕ). from_upper u appends) (sym h.upper ∙ upper_at) ∙ found.1 in
+            let weights : c.now.weight ≡ first.weight + weight_of_all h.done = h.weight in
+            let more = weight_on h.done o.append in
+            let heavier : a.after.weight ≡ c.now.weight + weight_of o.append.rows = ap (λ (d : PlainCollection). d.weight) effect in
+            record {
+              done = h.done ++ o.append ∷ [];
+              rest = found.0;
+              split = h.split ∙ ap (λ (xs : List FeedAppend). h.done ++ xs) rest_is ∙ sym (append_assoc h.done (o.append ∷ []) found.0);
+              updates = ap (λ (d : PlainCollection). d.updates) effect ∙ ap (λ (us : List Update). us ++ cons o.append.rows) h.updates
+                  ∙ append_assoc first.updates (rows_of h.done) (cons o.append.rows)
+                  ∙ ap (λ (us : List Update). first.updates ++ us) (sym (rows_on h.done o.append));
+              upper = ap (λ (d : PlainCollection). d.upper) effect ∙ sym (end_on first.upper h.done o.append);
+              weight = omega arith;
+              since = ap (λ (d : PlainCollection). d.since) effect ∙ h.since;
+            }
+
+    -- by what a worker's step is
+    steps : (s : Stepped shard list start e es) → IsWorkersStep appends shard own s.step → Come start es → Come start (e ∷ es)
+    steps s (inl j) c = leaves s (join_leaves s.from s.step s.to j s.applies)
+        (subst (λ (y : Transition). appended_by (replay_back start es) (Some (s.to, y)) ≡ []) (sym j) refl) c
+    steps s (inr (inl (member, is, joined))) c = leaves s
+        (leave_leaves s.from s.step s.to member is (state_rules shard ((replay_back start es).logs shard) s.number s.from s.last.1).since
+        (writer_kind start shard list es st (lawful_older start e es l) e.client member joined s.number s.from s.last) s.applies)
+        (subst (λ (y : Transition). appended_by (replay_back start es) (Some (s.to, y)) ≡ []) (sym is) refl) c
+    steps s (inr (inr o)) c = appends_one s o c
+
+    pub come_on : IsWorkersEntry appends shard start es e → Come start es → Come start (e ∷ es)
+    come_on p c = elim (bool_cases (commits_on shard (replay_back start es) e.call e.outcome)) [
+      | inr f ↦ idle f c
+      | inl t ↦ elim (what_commits shard list start st e es l (commits_there start shard e es t)) [
+        | inl b ↦ begun b c
+        | inr s ↦ by_call s (subst (λ (o : Option ℕ). CarriesWorkers appends shard own (calls.Cas shard o s.commit.bytes)) s.expected
+            (subst (CarriesWorkers appends shard own) s.commit.call_is p.carries)) c
+      ]
+    ]
+      where
+        by_call : (s : Stepped shard list start e es) →
+            CarriesWorkers appends shard own (calls.Cas shard (Some s.number) s.commit.bytes) → Come start es → Come start (e ∷ es)
+        by_call s (here, (to, x, written, step)) k =
+            let one = same_version (version_in shard (s.number + 1) s.commit.bytes) to s.to x s.step written s.written in
+            steps s (subst (IsWorkersStep appends shard own) one.1 step) k

@@ -1,0 +1,52 @@
+-- What a worker of a crew calls. A client's own entries go newest first. docs/DEFINITIONS.md, "Crews".
+use Rattle.std.specs.Prelude.{⊤, ◌≡◌, ◌⊎◌, ℕ, ◌+◌, Some, List}
+use Rattle.update_core.specs.declared.appends.FeedAppend.{FeedAppend}
+use Rattle.update_core.specs.Updates.{cons, weight_of}
+use Rattle.store_core.specs.declared.shards.ShardId.{ShardId}
+use Rattle.store_core.specs.declared.part_keys.PartKey.{PartKey}
+use Rattle.store_core.specs.declared.calls.Call.{Call}
+use Rattle.store_core.specs.declared.calls.Call.TheVariants as calls
+use Rattle.store_core.specs.declared.entries.Entry.{Entry}
+use Rattle.store_core.specs.Stores.{Stored}
+use Rattle.store_core.specs.Ports.{Answered}
+use Rattle.store_core.specs.Newest.{mine_back}
+use Rattle.state_core.specs.declared.kinds.Kind.TheVariants.{Writer}
+use Rattle.state_core.specs.declared.transitions.Transition.{Transition}
+use Rattle.state_core.specs.declared.transitions.Transition.TheVariants.{Join, Leave, Append}
+use Rattle.state_core.specs.Lists.{Among}
+use Rattle.state_core.specs.States.{ShardState}
+use Rattle.state_core.specs.VersionReading.{version_in}
+use Rattle.history_core.specs.Discipline.{Allows, Hold, StoredAs}
+use Rattle.history_core.specs.Members.{JoinedAs}
+
+-- The transition is one of these appends: with its range, with parts that the client stored and that hold its rows,
+-- consolidated, and with their weight as handed in.
+pub record IsOneOf (appends : List FeedAppend) (own : List Answered) (x : Transition) : Type 0 where
+  pub append : FeedAppend
+  pub among : Among (λ a. a ≡ append) appends
+  pub member : ℕ
+  pub token : ℕ
+  pub parts : List PartKey
+  pub count : ℕ
+  pub step_is : x ≡ Append member token append.lower append.upper parts count (weight_of append.rows)
+  pub holds : Hold (StoredAs own) parts (cons append.rows)
+
+-- the transition is the leave of a member that the client joined as a writer
+abbrev pub IsOwnLeave : ShardId → List Answered → Transition → Type 0
+IsOwnLeave shard own x = (member : ℕ) × (x ≡ Leave member) × JoinedAs Writer own shard member
+
+-- what a writer of a crew may commit: the join of a writer, the leave of one that it joined, and these appends
+abbrev pub IsWorkersStep : List FeedAppend → ShardId → List Answered → Transition → Type 0
+IsWorkersStep appends shard own x = (x ≡ Join Writer 0 0) ⊎ (IsOwnLeave shard own x ⊎ IsOneOf appends own x)
+
+-- a Cas past a version is of the crew's shard, and its bytes carry such a transition
+abbrev pub CarriesWorkers : List FeedAppend → ShardId → List Answered → Call → Type 0
+CarriesWorkers appends shard own (calls.Cas at_shard (Some n) bytes) =
+    (at_shard ≡ shard) ×
+    ((to : ShardState) × (x : Transition) × (version_in shard (n + 1) bytes ≡ Some (to, x)) × IsWorkersStep appends shard own x)
+CarriesWorkers appends shard own _ = ⊤
+
+-- an entry of a worker, at its place: a call that its client may make, and a Cas carries what a worker may commit
+pub record IsWorkersEntry (appends : List FeedAppend) (shard : ShardId) (start : Stored) (es : List Entry) (e : Entry) : Type 0 where
+  pub allowed : Allows (mine_back start es e.client) e.call
+  pub carries : CarriesWorkers appends shard (mine_back start es e.client) e.call

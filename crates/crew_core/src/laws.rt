@@ -1,0 +1,50 @@
+// Laws of what workers do together, each the contract of a function that does nothing. docs/DEFINITIONS.md, "Crews".
+ghost use Rattle.crew_core.specs.Competing.{CompetingAppends, StorersCommitAccepted, WorkersLawful};
+ghost use Rattle.crew_core.specs.Completing.{BoundStays, CompleteFromEmpty, CompleteIsPlain};
+ghost use Rattle.crew_core.specs.KeepingOn.{KeptPastACall, KeptPastOthers, KeptTwice};
+
+/// What a client keeps as a worker it goes on keeping: past entries of others; over two stretches of its front, one after the other;
+/// and past a call of its own. Supposes of that call that its entry is a worker's where what came before it is lawful and the start
+/// stands for a list; nothing of what others call. (docs/DEFINITIONS.md, "Crews".)
+pub fn keeping_goes_on()
+    ensures others { KeptPastOthers }
+    ensures twice { KeptTwice }
+    ensures call { KeptPastACall }
+{}
+
+/// What workers have added to a lawful history leaves it lawful. Supposes that the start stands for a list, that the history was
+/// lawful, and that each entry since is of a client that kept what a worker keeps; nothing of the appends, of an order among the
+/// clients, or of which of their calls failed. (docs/DEFINITIONS.md, "Crews".)
+pub fn workers_lawful()
+    ensures { WorkersLawful }
+{}
+
+/// And the collection afterwards is the one before, followed by the rows of the first few of the feed's appends from its upper on; its
+/// upper and weight are theirs, its since stays. Supposes what `workers_lawful` does, so that nothing but joins and leaves of writers
+/// and these appends was committed; that there was a collection before; and that the appends follow on from 0, each ending later than
+/// it begins. Nothing of their rows or weights. (docs/DEFINITIONS.md, "Crews".)
+pub fn competing_appends()
+    ensures { CompetingAppends }
+{}
+
+/// A commit of one of these appends by the client that stored its parts is accepted with the append's rows, also where its answer was
+/// lost. Supposes that the start stands for a list and that the history is lawful up to and with this entry; nothing of the appends,
+/// and of other clients' entries no more than that they are lawful. (docs/DEFINITIONS.md, "Crews".)
+pub fn storers_commit_accepted()
+    ensures { StorersCommitAccepted }
+{}
+
+/// Where the upper has come to the feed's end, the collection is the one that one writer alone makes, append by append. Supposes that
+/// the appends follow on from 0, that the collection grew by the first few of them from its upper on, and that the weights fit: the
+/// first collection's and those of the appends from its upper on sum to no more than 2^62. From the empty collection they do where
+/// the appends make a feed. (docs/DEFINITIONS.md, "Crews".)
+pub fn complete_is_plain()
+    ensures any { CompleteIsPlain }
+    ensures empty { CompleteFromEmpty }
+{}
+
+/// An upper at which an append begins, or at which all end, stays one. Supposes that the appends follow on from 0 and that the
+/// collection grew by the first few of them from its upper on. (docs/DEFINITIONS.md, "Crews".)
+pub fn bound_stays()
+    ensures { BoundStays }
+{}
