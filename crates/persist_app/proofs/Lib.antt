@@ -5,6 +5,10 @@ pub mod Views
 pub mod Refused
 pub mod DriveLaws
 pub mod SessionLaws
+pub mod WriteLaws
+pub mod ReadLaws
 pub mod ReplyLaws
 pub mod RunLaws
 pub mod TextRead
+pub mod DiskOpenings
+pub mod DiskEndings

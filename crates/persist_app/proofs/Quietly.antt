@@ -126,12 +126,6 @@ pub none_starts : (shard : ShardId) (list : List Update) (start : Stored) (es : 
 none_starts shard list start es view e at c =
     quiet_starts shard list start e.client es (e ∷ es) 1 view (quiet_none shard start e.client es es 0 e (quiet_start shard e.client start es) refl c) at
 
--- and that of a reader
-pub none_view : (shard : ShardId) (list : List Update) (start : Stored) (es : List Entry) (reader : ℕ) (view : View) (e : Entry) →
-    ViewAt shard list start es reader view → CommitsNone (reply (replay_back start es) e) → ViewAt shard list start (e ∷ es) reader view
-none_view shard list start es reader view e v c =
-    quiet_view shard list start e.client es (e ∷ es) 1 reader view (quiet_none shard start e.client es es 0 e (quiet_start shard e.client start es) refl c) v
-
 -- and what is accepted
 pub none_keeps : (shard : ShardId) (list : List Update) (start : Stored) (es : List Entry) (e : Entry) → CommitsNone (reply (replay_back start es) e) →
     accepted shard list start (e ∷ es) ≡ accepted shard list start es

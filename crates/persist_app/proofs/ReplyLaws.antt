@@ -41,7 +41,9 @@ use Rattle.update_core.specs.Updates.{weight_of}
 use Rattle.persist_app.specs.PlainRuns.{View, append_reply, append_text, collection_after, is_outside, view_with}
 use Rattle.persist_app.proofs.DriveLaws.{scanned_before}
 use Rattle.driving.proofs.GoingLaws.{Between, going_so, more_going}
-use Rattle.persist_app.proofs.SessionLaws.{read_keeps, reading, waits, write_keeps, writing}
+use Rattle.persist_app.proofs.ReadLaws.{reading}
+use Rattle.persist_app.proofs.SessionLaws.{read_keeps, waits, write_keeps}
+use Rattle.persist_app.proofs.WriteLaws.{writing}
 
 -- ---- faults
 

@@ -72,15 +72,19 @@ FoundSpent told told_now = Goes own_shard told told_now (λ list start es now. S
 abbrev pub StaysLawful : Option History → Option History → Type 0
 StaysLawful told told_now = Goes own_shard told told_now (λ list start es now. ⊤)
 
--- The source's text was read to its end and spells a feed. Where the store's history is told, lawful and from a start that stands
--- for a list, the sink gained the plain run of that feed.
-pub record RunsPlainly (told told_now : Option History) (left left_now taken taken_now : Option (List ℕ)) : Type 0 where
+-- the source's text was read to its end and spells a feed
+pub record ReadsFeed (left left_now : Option (List ℕ)) : Type 0 where
   pub text : List ℕ
   pub had : Left left text
   pub end : AtEnd left_now
   pub feed : List FeedLine
   pub spells : Spells feed text
-  pub written : Goes own_shard told told_now (AnswersFeed feed taken taken_now)
+
+-- A feed was read. Where the store's history is told, lawful and from a start that stands for a list, the sink gained the plain run
+-- of that feed.
+pub record RunsPlainly (told told_now : Option History) (left left_now taken taken_now : Option (List ℕ)) : Type 0 where
+  pub read : ReadsFeed left left_now
+  pub written : Goes own_shard told told_now (AnswersFeed read.feed taken taken_now)
 
 -- A line of the source's text is the first outside the grammar or a limit, and the sink gained the line that names it.
 pub record RefusesLine (left taken taken_now : Option (List ℕ)) : Type 0 where
@@ -90,6 +94,10 @@ pub record RefusesLine (left taken taken_now : Option (List ℕ)) : Type 0 where
   pub fault : IsFirstFault text number
   pub written : Gains taken taken_now (line_fault_text number)
 
+-- the text spells a feed
+abbrev pub SpellsFeed : List ℕ → Type 0
+SpellsFeed text = (feed : List FeedLine) × Spells feed text
+
 -- what has become of a text when its commands were executed over a store
 abbrev pub AnswersText : Ending → Option History → Option History → List ℕ → Option (List ℕ) → Option (List ℕ) → ℕ → ℕ → Type 0
 AnswersText endings.Complete told told_now text taken taken_now faults faults_now = (feed : List FeedLine) × Spells feed text × Goes own_shard told told_now (AnswersFeed feed taken taken_now)
@@ -97,11 +105,11 @@ AnswersText endings.NoCommand told told_now text taken taken_now faults faults_n
 AnswersText (endings.BadLine number) told told_now text taken taken_now faults faults_now = IsFirstFault text number × (taken_now ≡ taken)
 AnswersText endings.InputFailed told told_now text taken taken_now faults faults_now = ⊥
 AnswersText endings.OutputFailed told told_now text taken taken_now faults faults_now = Rose faults faults_now
-AnswersText endings.StoreFailed told told_now text taken taken_now faults faults_now = ⊤
+AnswersText endings.StoreFailed told told_now text taken taken_now faults faults_now = SpellsFeed text
 AnswersText endings.Memory told told_now text taken taken_now faults faults_now = ⊤
-AnswersText endings.Damaged told told_now text taken taken_now faults faults_now = NoCollection told told_now
-AnswersText endings.MembersFull told told_now text taken taken_now faults faults_now = FoundFull told told_now
-AnswersText endings.Spent told told_now text taken taken_now faults faults_now = FoundSpent told told_now
+AnswersText endings.Damaged told told_now text taken taken_now faults faults_now = SpellsFeed text × NoCollection told told_now
+AnswersText endings.MembersFull told told_now text taken taken_now faults faults_now = SpellsFeed text × FoundFull told told_now
+AnswersText endings.Spent told told_now text taken taken_now faults faults_now = SpellsFeed text × FoundSpent told told_now
 
 -- what has become of a run that ends so, before its last line
 abbrev pub EndsRun : Ending → Option History → Option History → Option (List ℕ) → Option (List ℕ) → ℕ → ℕ → Option (List ℕ) → Option (List ℕ) → ℕ → ℕ → Type 0
@@ -110,11 +118,11 @@ EndsRun endings.NoCommand told told_now left left_now reads reads_now taken take
 EndsRun (endings.BadLine number) told told_now left left_now reads reads_now taken taken_now puts puts_now = (text : List ℕ) × Left left text × IsFirstFault text number × (taken_now ≡ taken)
 EndsRun endings.InputFailed told told_now left left_now reads reads_now taken taken_now puts puts_now = Rose reads reads_now × (taken_now ≡ taken)
 EndsRun endings.OutputFailed told told_now left left_now reads reads_now taken taken_now puts puts_now = Rose puts puts_now
-EndsRun endings.StoreFailed told told_now left left_now reads reads_now taken taken_now puts puts_now = ⊤
+EndsRun endings.StoreFailed told told_now left left_now reads reads_now taken taken_now puts puts_now = ReadsFeed left left_now
 EndsRun endings.Memory told told_now left left_now reads reads_now taken taken_now puts puts_now = ⊤
-EndsRun endings.Damaged told told_now left left_now reads reads_now taken taken_now puts puts_now = NoCollection told told_now
-EndsRun endings.MembersFull told told_now left left_now reads reads_now taken taken_now puts puts_now = FoundFull told told_now
-EndsRun endings.Spent told told_now left left_now reads reads_now taken taken_now puts puts_now = FoundSpent told told_now
+EndsRun endings.Damaged told told_now left left_now reads reads_now taken taken_now puts puts_now = ReadsFeed left left_now × NoCollection told told_now
+EndsRun endings.MembersFull told told_now left left_now reads reads_now taken taken_now puts puts_now = ReadsFeed left left_now × FoundFull told told_now
+EndsRun endings.Spent told told_now left left_now reads reads_now taken taken_now puts puts_now = ReadsFeed left left_now × FoundSpent told told_now
 
 -- before any command was executed, the store is as it was
 abbrev pub Spares : {S : Type 0} → Ending → S → S → Type 0
@@ -149,8 +157,8 @@ Performs words (endings.BadLine number) told told_now left left_now reads reads_
     IsRun words × (text : List ℕ) × Left left text × IsFirstFault text number × (taken_now ≡ taken)
 Performs words endings.InputFailed told told_now left left_now reads reads_now taken taken_now puts puts_now = IsRun words × Rose reads reads_now × (taken_now ≡ taken)
 Performs words endings.OutputFailed told told_now left left_now reads reads_now taken taken_now puts puts_now = IsRun words × Rose puts puts_now
-Performs words endings.StoreFailed told told_now left left_now reads reads_now taken taken_now puts puts_now = IsRun words
+Performs words endings.StoreFailed told told_now left left_now reads reads_now taken taken_now puts puts_now = IsRun words × ReadsFeed left left_now
 Performs words endings.Memory told told_now left left_now reads reads_now taken taken_now puts puts_now = IsRun words
-Performs words endings.Damaged told told_now left left_now reads reads_now taken taken_now puts puts_now = IsRun words × NoCollection told told_now
-Performs words endings.MembersFull told told_now left left_now reads reads_now taken taken_now puts puts_now = IsRun words × FoundFull told told_now
-Performs words endings.Spent told told_now left left_now reads reads_now taken taken_now puts puts_now = IsRun words × FoundSpent told told_now
+Performs words endings.Damaged told told_now left left_now reads reads_now taken taken_now puts puts_now = IsRun words × ReadsFeed left left_now × NoCollection told told_now
+Performs words endings.MembersFull told told_now left left_now reads reads_now taken taken_now puts puts_now = IsRun words × ReadsFeed left left_now × FoundFull told told_now
+Performs words endings.Spent told told_now left left_now reads reads_now taken taken_now puts puts_now = IsRun words × ReadsFeed left left_now × FoundSpent told told_now

@@ -4,3 +4,6 @@ pub mod Endings
 pub mod Sessions
 pub mod Drives
 pub mod Answering
+pub mod PlainEnds
+pub mod DiskLines
+pub mod DiskLefts

@@ -3,9 +3,13 @@
 
 mod clocks;
 mod collections;
+mod disk_ends;
+mod disk_lefts;
+mod disk_statuses;
 mod drives;
 mod endings;
 mod ends;
+mod on_disk;
 mod plain;
 mod run_faults;
 mod runs;
@@ -13,15 +17,22 @@ mod session_faults;
 mod sessions;
 mod statuses;
 mod system_clocks;
+mod watched;
+mod watching;
 mod words;
 
 pub use clocks::{Clock, FixedClock};
 pub use collections::PlainCollection;
+pub use disk_ends::DiskEnded;
+pub use disk_lefts::DiskLeft;
 pub use ends::Ended;
+pub use on_disk::persist_on_disk;
 pub use plain::persist_plain;
 pub use system_clocks::SystemClock;
 
 #[cfg(test)]
 mod deaf_stores;
+#[cfg(test)]
+mod disk_tests;
 #[cfg(test)]
 mod tests;

@@ -4,7 +4,7 @@ ghost use Rattle.causes.specs.Causes.{Rose};
 ghost use Rattle.feed_text.specs.declared.limits.TheConstants.{MAX_BYTES};
 ghost use Rattle.feed_text.specs.Streams.{Gains, ReadsUpTo};
 ghost use Rattle.driving.specs.StoreTurns.{Extends, StoreFailed};
-ghost use Rattle.persist_app.specs.Endings.{EndsWith, Finishes, FoundFull, FoundSpent, IsRun, IsStatus, NoCollection, Performs, RunsPlainly, RefusesLine, Spares, StaysLawful, input_failed_text, words_text};
+ghost use Rattle.persist_app.specs.Endings.{EndsWith, Finishes, FoundFull, FoundSpent, IsRun, IsStatus, NoCollection, Performs, ReadsFeed, RunsPlainly, RefusesLine, Spares, StaysLawful, input_failed_text, words_text};
 
 use crate::clocks::Clock;
 use crate::endings::Ending;
@@ -110,14 +110,23 @@ pub fn persist_plain<So: Source, Si: Sink, S: Store, K: Clock>(
         × Gains (Si.taken out.old) (Si.taken out.new) input_failed_text }
     // 5: a put failed.
     ensures output { result.status ≡ 5 → Rose (Si.faults out.old) (Si.faults out.new) }
+    // 6, and 9 to 11: the words are the command's, and the text was read to its end and spells a feed.
     // 6: a store call failed; where the history is told, it is the last call.
-    ensures store_failed { result.status ≡ 6 → StoreFailed (S.history result.store) (S.faults store) (S.faults result.store) }
+    ensures store_failed { result.status ≡ 6 → IsRun (map string_bytes words.now.items)
+        × ReadsFeed (So.left src.old) (So.left src.new)
+        × StoreFailed (S.history result.store) (S.faults store) (S.faults result.store) }
     // 9: never where the history is told, lawful and from a start that stands for a list.
-    ensures damaged { result.status ≡ 9 → NoCollection (S.history store) (S.history result.store) }
+    ensures damaged { result.status ≡ 9 → IsRun (map string_bytes words.now.items)
+        × ReadsFeed (So.left src.old) (So.left src.new)
+        × NoCollection (S.history store) (S.history result.store) }
     // 10: over such a history a Scan of this call showed 256 members.
-    ensures members_full { result.status ≡ 10 → FoundFull (S.history store) (S.history result.store) }
+    ensures members_full { result.status ≡ 10 → IsRun (map string_bytes words.now.items)
+        × ReadsFeed (So.left src.old) (So.left src.new)
+        × FoundFull (S.history store) (S.history result.store) }
     // 11: over such a history a Scan of this call showed a last version with the number 2^64 - 1.
-    ensures spent { result.status ≡ 11 → FoundSpent (S.history store) (S.history result.store) }
+    ensures spent { result.status ≡ 11 → IsRun (map string_bytes words.now.items)
+        × ReadsFeed (So.left src.old) (So.left src.new)
+        × FoundSpent (S.history store) (S.history result.store) }
     // At most one byte more than a feed may have is read, and each read but the last takes one.
     ensures reading { ReadsUpTo (MAX_BYTES + 1) (So.left src.old) (So.left src.new) (So.reads src.old) (So.reads src.new) }
     // The history, where it is told, has the same start, and a trail that begins with the trail handed in.

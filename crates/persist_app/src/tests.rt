@@ -417,15 +417,15 @@ fn last_version(alloc: Global, trail: &[Entry]) -> Result<Bytes, AllocError> {
     Ok(found)
 }
 
-// A shard whose one version has the last number.
-fn last_shard(alloc: Global, bytes: Bytes) -> Result<ShardList, AllocError>
+// Shard 1 with this one version.
+fn one_version(alloc: Global, number: u64, bytes: Bytes) -> Result<ShardList, AllocError>
     ensures shards { IfOk result (λ shards. NoneTwice same_shard (shards_of shards)) }
     ensures versions { IfOk result (λ shards. AllByRecursion CanStart shards) }
 {
     let mut versions = BytesList::new(alloc);
     versions.push(bytes)?;
     let mut shards = ShardList::new(alloc);
-    shards.push((ShardId(1), u64::MAX, versions))?;
+    shards.push((ShardId(1), number, versions))?;
     Ok(shards)
 }
 
@@ -434,11 +434,23 @@ fn after_the_last_version_nothing_is_done(rt: HostRuntime) -> Result<(), Fail> {
     let alloc = rt.alloc();
     let store = MemStore::new(alloc, FaultList::new(alloc));
     let (first, _) = ended(alloc, &run(b""), store)?;
-    let shards = last_shard(alloc, last_version(alloc, first.store.trail())?)?;
+    let shards = one_version(alloc, u64::MAX, last_version(alloc, first.store.trail())?)?;
     let store = MemStore::starting(alloc, BlobList::new(alloc), shards, FaultList::new(alloc))?;
     let (ended, taken) = ended(alloc, &run(b"snapshot 0\n"), store)?;
     assert_eq!(rt; ended.status, 11);
     assert_eq!(rt; taken.as_slice(), b"spent\n".as_slice());
+    Ok(())
+}
+
+#[test]
+fn a_version_that_cannot_be_read_is_damage(rt: HostRuntime) -> Result<(), Fail> {
+    let alloc = rt.alloc();
+    let bytes = Bytes::of(alloc, b"\0".to_vec(alloc)?)?;
+    let shards = one_version(alloc, 0, bytes)?;
+    let store = MemStore::starting(alloc, BlobList::new(alloc), shards, FaultList::new(alloc))?;
+    let (ended, taken) = ended(alloc, &run(b"snapshot 0\n"), store)?;
+    assert_eq!(rt; ended.status, 9);
+    assert_eq!(rt; taken.as_slice(), b"damaged\n".as_slice());
     Ok(())
 }
 

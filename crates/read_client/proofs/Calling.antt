@@ -53,7 +53,7 @@ use Rattle.read_client.specs.declared.stages.Stage.TheVariants as stages
 use Rattle.read_client.specs.Asking.{look_of, question_of, step_question}
 use Rattle.read_client.specs.Reading.{AsksAs, IsOpen, IsSound, Moves, MovesBy, MovesByFetched, call_by, call_of, counted, holding, look_poll, own_member, question, read_call, shard_of, verdict, IsAsked}
 use Rattle.read_client.proofs.HowRead.{IsScanStage, HowGot, gains, fails, misses, spoilt, heavy, HowRead, unscanned, damaged, scanned, checked, got, how_read}
-use Rattle.read_client.proofs.Sound.{Ends, refused_ends, missing_ends}
+use Rattle.read_client.proofs.Sound.{Ends, committed_ends, refused_ends, missing_ends}
 use Rattle.load_core.specs.Firsts.{MakesFirst}
 use Rattle.load_core.proofs.Firsts.{tried_first}
 use Rattle.read_client.specs.Machining.{Opens}
@@ -72,7 +72,7 @@ by_verdict r asked tries.Begun reply poll f e = more e
 by_verdict r asked tries.Again reply poll f e = more e
 by_verdict r asked tries.Goes reply poll f e = more e
 by_verdict r asked tries.Fault reply poll f e = fault (f refl) e
-by_verdict r asked (tries.Committed version) reply poll f e = ends (subst Ends (sym e) tt)
+by_verdict r asked (tries.Committed version) reply poll f e = ends (subst Ends (sym e) (committed_ends r asked version))
 by_verdict r asked (tries.Refused refusal) reply poll f e = ends (subst Ends (sym e) (refused_ends r asked refusal))
 by_verdict r asked tries.Spent reply poll f e = ends (subst Ends (sym e) tt)
 by_verdict r asked (tries.Damaged damage) reply poll f e = ends (subst Ends (sym e) tt)

@@ -1,6 +1,6 @@
 -- What a call of a reader commits, by what its poll comes to.
-use Rattle.std.proofs.Common.{◌≡◌, inl, inr, ℕ, ◌+◌, Bool, true, false, Option, Some, None, Result, Ok, Err, List, [], ◌∷◌, refl, sym, ap, subst, ◌∙◌, arith}
-use Rattle.std.specs.Prelude.{IfSome, if◌then◌else◌}
+use Rattle.std.proofs.Common.{◌≡◌, inl, inr, ℕ, Bool, true, false, Option, Some, None, Result, Ok, Err, List, [], ◌∷◌, refl, sym, ap, subst, ◌∙◌}
+use Rattle.std.specs.Prelude.{if◌then◌else◌}
 use Rattle.update_core.specs.Collections.{SnapshotAnswer, ListenAnswer, content, early, late, behind, ended, quiet, step, snapshot_answer, listen_answer}
 use Rattle.store_core.specs.declared.shards.ShardId.{ShardId}
 use Rattle.store_core.specs.declared.part_keys.PartKey.{PartKey}
@@ -8,15 +8,10 @@ use Rattle.store_core.specs.declared.calls.Call.{Call}
 use Rattle.store_core.specs.declared.replies.Reply.{Reply}
 use Rattle.store_core.specs.declared.replies.Reply.TheVariants as replies
 use Rattle.store_core.specs.declared.versions.Version.{Version}
-use Rattle.state_core.specs.declared.kinds.Kind.TheVariants.{Reader as AsReader}
 use Rattle.state_core.specs.declared.members.Member.{Member}
-use Rattle.state_core.specs.declared.refusals.Refusal.{Refusal}
-use Rattle.state_core.specs.declared.refusals.Refusal.TheVariants as refusals
 use Rattle.state_core.specs.declared.transitions.Transition.{Transition}
-use Rattle.state_core.specs.declared.transitions.Transition.TheVariants.{Join}
 use Rattle.state_core.specs.Refusals.{member_of}
 use Rattle.state_core.specs.States.{ShardState, is_reader}
-use Rattle.state_core.specs.Steps.{Applies}
 use Rattle.state_core.proofs.ListLemmas.{bool_cases}
 use Rattle.history_core.specs.declared.asked.Asked.{Asked}
 use Rattle.history_core.specs.declared.asked.Asked.TheVariants as asks
@@ -29,15 +24,16 @@ use Rattle.load_core.specs.declared.fetches.Fetched.TheVariants as fetches
 use Rattle.load_core.specs.declared.gettings.Getting.{Getting}
 use Rattle.load_core.specs.declared.polls.Poll.{Poll}
 use Rattle.load_core.specs.declared.polls.Poll.TheVariants as polls
-use Rattle.load_core.specs.declared.tries.Tried.{Tried}
-use Rattle.load_core.specs.declared.tries.Tried.TheVariants as tries
-use Rattle.load_core.specs.declared.tryings.Trying.{Trying}
-use Rattle.load_core.specs.Effects.{CommitsNone, StepIn, TriedEffect}
+use Rattle.load_core.specs.Effects.{CommitsNone, CommitsStep}
 use Rattle.load_core.specs.Getting as getting
 use Rattle.load_core.specs.Loading.{newest_after}
 use Rattle.load_core.specs.Trying as trying
-use Rattle.load_core.proofs.Effects.{tried_effect}
 use Rattle.load_core.proofs.Runs.{moves_same}
+use Rattle.change_core.specs.declared.outcomes.Outcome.{Outcome}
+use Rattle.change_core.specs.declared.outcomes.Outcome.TheVariants as outcomes
+use Rattle.change_core.specs.Changes.{outcome}
+use Rattle.change_core.specs.Legality.{ChangeEffect}
+use Rattle.change_core.proofs.Coming.{change_effect}
 use Rattle.read_client.specs.declared.questions.Question.{Question}
 use Rattle.read_client.specs.declared.questions.Question.TheVariants as questions
 use Rattle.read_client.specs.declared.questions.Look.{Look}
@@ -47,8 +43,8 @@ use Rattle.read_client.specs.declared.stages.Stage.{Stage}
 use Rattle.read_client.specs.declared.stages.Stage.TheVariants as stages
 use Rattle.read_client.specs.Asking.{asks_of, content_look, look_of, member_look, step_look}
 use Rattle.read_client.specs.Polling.{Effect}
-use Rattle.read_client.specs.Reading.{ChecksAt, IsAsked, IsSound, LooksAt, Moves, MovesAfterCheck, MovesAfterScan, MovesBy, MovesByFetched, MovesByStage, after_poll, call_by, call_of, change_refused, committed_answer, counted, expired, holding, is_gone, last_member, look_poll, missing_poll, own_member, parts_poll, question, refused_poll, rows_answer, shard_of, since_of, staged, strange, verdict, newest_number}
-use Rattle.read_client.proofs.Sound.{by_number}
+use Rattle.change_core.specs.Changes.{is_gone}
+use Rattle.read_client.specs.Reading.{ChecksAt, IsSound, LooksAt, Moves, MovesAfterCheck, MovesAfterScan, MovesBy, MovesByFetched, MovesByStage, after_poll, call_by, call_of, change_poll, counted, expired, gone_answer, holding, in_answer, look_poll, missing_poll, own_member, parts_poll, question, rows_answer, shard_of, staged, verdict}
 
 -- ---- one more call is counted
 
@@ -138,46 +134,46 @@ bytes_none reply b e = record {
   none = λ version h. let bad : replies.Bytes b ≡ replies.Committed version = sym e ∙ h in cc;
 }
 
--- the member that has joined is the last one, and the since is the state's
-joined_last : (now lease : ℕ) (from to : ShardState) (tried : Transition) → tried ≡ Join AsReader now lease → Applies from tried to → (cached : Option ShardState) → cached ≡ Some to →
-    (to.next_member ≡ last_member cached + 1) × (to.since ≡ since_of cached)
-joined_last now lease from to tried is applies cached e =
-    let a : Applies from (Join AsReader now lease) to = subst (λ (x : Transition). Applies from x to) is applies in
-    let one : to.next_member ≡ from.next_member + 1 = ap (λ (s : ShardState). s.next_member) a.makes.effect in
-    subst (λ (c : Option ShardState). (to.next_member ≡ last_member c + 1) × (to.since ≡ since_of c)) (sym e) (omega arith, refl)
-
 module _ (shard : ShardId) (tried_step : Transition) (call : Call) (reply : Reply) where
   abbrev Commits : Poll ReadAnswer → Type 0
   Commits poll = Effect shard tried_step call reply poll
 
-  gone_effect : (r : Reader) (gone : Bool) → CommitsNone reply → Commits (if gone then expired r else strange r)
-  gone_effect r true n = n
-  gone_effect r false n = tt
+  in_effect : (asked : Asked) (version : ℕ) → CommitsStep shard tried_step call reply → Commits (polls.Done (in_answer asked version))
+  in_effect (asks.Advance to) version n = n
+  in_effect (asks.RenewReader now) version n = n
+  in_effect (asks.OpenReader at_shard now lease) version n = inl n
+  in_effect (asks.OpenWriter at_shard) version n = inl n
+  in_effect (asks.Append rows expected new) version n = inl n
+  in_effect asks.CloseWriter version n = inl n
+  in_effect (asks.Snapshot t) version n = inl n
+  in_effect (asks.Listen as_of) version n = inl n
+  in_effect asks.Next version n = inl n
+  in_effect asks.CloseReader version n = inl n
 
-  change_effect : (r : Reader) (refusal : Refusal) → CommitsNone reply → Commits (change_refused r refusal)
-  change_effect r (refusals.Back since) n = n
-  change_effect r (refusals.TokenOld last) n = gone_effect r (is_gone (own_member r) r.trying.loader.cached) n
-  change_effect r (refusals.UpperIs current) n = gone_effect r (is_gone (own_member r) r.trying.loader.cached) n
-  change_effect r (refusals.Heavy weight) n = gone_effect r (is_gone (own_member r) r.trying.loader.cached) n
-  change_effect r refusals.Shape n = gone_effect r (is_gone (own_member r) r.trying.loader.cached) n
-  change_effect r refusals.Spent n = gone_effect r (is_gone (own_member r) r.trying.loader.cached) n
-  change_effect r refusals.NoMember n = gone_effect r (is_gone (own_member r) r.trying.loader.cached) n
-  change_effect r (refusals.MembersFull count) n = gone_effect r (is_gone (own_member r) r.trying.loader.cached) n
-  change_effect r refusals.NotPresent n = gone_effect r (is_gone (own_member r) r.trying.loader.cached) n
-  change_effect r refusals.NotDue n = gone_effect r (is_gone (own_member r) r.trying.loader.cached) n
-  change_effect r refusals.Memory n = gone_effect r (is_gone (own_member r) r.trying.loader.cached) n
+  gone_did : (asked : Asked) (version : ℕ) → CommitsNone reply → Commits (polls.Done (gone_answer asked version))
+  gone_did (asks.Advance to) version n = n
+  gone_did (asks.RenewReader now) version n = n
+  gone_did (asks.OpenReader at_shard now lease) version n = inr n
+  gone_did (asks.OpenWriter at_shard) version n = inr n
+  gone_did (asks.Append rows expected new) version n = inr n
+  gone_did asks.CloseWriter version n = inr n
+  gone_did (asks.Snapshot t) version n = inr n
+  gone_did (asks.Listen as_of) version n = inr n
+  gone_did asks.Next version n = inr n
+  gone_did asks.CloseReader version n = inr n
 
-  refused_effect : (r : Reader) (asked : Asked) (refusal : Refusal) → CommitsNone reply → Commits (refused_poll r asked refusal)
-  refused_effect r (asks.OpenReader at_shard now lease) refusal n = by_number Commits (newest_number r) (λ last. tt) n
-  refused_effect r (asks.Advance to) refusal n = change_effect r refusal n
-  refused_effect r (asks.RenewReader now) refusal n = change_effect r refusal n
-  refused_effect r (asks.OpenWriter at_shard) refusal n = inr n
-  refused_effect r (asks.Append rows expected new) refusal n = inr n
-  refused_effect r asks.CloseWriter refusal n = inr n
-  refused_effect r (asks.Snapshot t) refusal n = inr n
-  refused_effect r (asks.Listen as_of) refusal n = inr n
-  refused_effect r asks.Next refusal n = inr n
-  refused_effect r asks.CloseReader refusal n = inr n
+  -- what a change has committed
+  change_did : (r : Reader) (asked : Asked) (o : Outcome) → ChangeEffect shard tried_step call reply o → Commits (change_poll r asked o)
+  change_did r asked outcomes.Going h = h
+  change_did r asked outcomes.Fault h = tt
+  change_did r asked outcomes.Spent h = tt
+  change_did r asked (outcomes.Damaged damage) h = tt
+  change_did r asked (outcomes.Joined member version since) h = h
+  change_did r asked (outcomes.Full version) h = h.0
+  change_did r asked (outcomes.Committed version) h = in_effect asked version h
+  change_did r asked (outcomes.Gone version) h = gone_did asked version h.0
+  change_did r asked (outcomes.Back since) h = h.0
+  change_did r asked (outcomes.Strange version) h = tt
 
   -- what a question is answered commits nothing
   parts_effect : (r : Reader) (q : Question) (keys : List PartKey) → CommitsNone reply → Commits (parts_poll r q keys)
@@ -275,39 +271,14 @@ module _ (shard : ShardId) (tried_step : Transition) (call : Call) (reply : Repl
     stage_effect q stages.Get m = got_effect q m.0 m.1 reply refl m.2 m.3
     stage_effect q (stages.Check key) m = checked_effect key reply refl m
 
-committed_effect : (old : Reader) (t : Trying) (reply : Reply) (asked : Asked) (version : ℕ) → IsAsked old asked → StepIn old.trying reply t → Effect (shard_of old) old.trying.step (trying.call_of old.trying) reply (polls.Done (committed_answer (record old { trying = t }) asked version))
-committed_effect old t reply (asks.OpenReader at_shard now lease) version is s =
-    let both = joined_last now lease s.from s.commits.to old.trying.step is.2 s.applies t.loader.cached s.cached in (s.commits, both.0, both.1)
-committed_effect old t reply (asks.Advance to) version is s = s.commits
-committed_effect old t reply (asks.RenewReader now) version is s = s.commits
-committed_effect old t reply (asks.OpenWriter at_shard) version is s = inl s.commits
-committed_effect old t reply (asks.Append rows expected new) version is s = inl s.commits
-committed_effect old t reply asks.CloseWriter version is s = inl s.commits
-committed_effect old t reply (asks.Snapshot at_time) version is s = inl s.commits
-committed_effect old t reply (asks.Listen as_of) version is s = inl s.commits
-committed_effect old t reply asks.Next version is s = inl s.commits
-committed_effect old t reply asks.CloseReader version is s = inl s.commits
-
-verdict_effect : (old : Reader) (t : Trying) (reply : Reply) (asked : Asked) (tried : Tried) → IsAsked old asked → TriedEffect old.trying reply t tried → Effect (shard_of old) old.trying.step (trying.call_of old.trying) reply (verdict (record old { trying = t }) asked tried)
-verdict_effect old t reply asked (tries.Committed version) is s = committed_effect old t reply asked version is s
-verdict_effect old t reply asked tries.Begun is s = inr s
-verdict_effect old t reply asked tries.Again is s = inl s
-verdict_effect old t reply asked tries.Goes is s = inl s
-verdict_effect old t reply asked tries.Fault is s = tt
-verdict_effect old t reply asked (tries.Refused refusal) is s = refused_effect (shard_of old) old.trying.step (trying.call_of old.trying) reply (record old { trying = t }) asked refusal s
-verdict_effect old t reply asked tries.Spent is s = tt
-verdict_effect old t reply asked (tries.Damaged damage) is s = tt
-
 pub effect_of : (old new : Reader) (call : Call) (reply : Reply) (poll : Poll ReadAnswer) → IsSound old → call_of old ≡ Some call → Moves old reply new poll → Effect (shard_of old) old.trying.step call reply poll
 effect_of old new call reply poll sound call_is moves = go (question old) call_is moves
   where
-    asked_is : (asked : Asked) → old.asked ≡ Some asked → IsAsked old asked
-    asked_is asked e = let h = sound.asked in subst (λ (o : Option Asked). IfSome o (IsAsked old)) e h
-
     go : (q : Option Question) → call_by old q ≡ Some call → MovesBy q old reply new poll → Effect (shard_of old) old.trying.step call reply poll
     go None c m =
         let same : trying.call_of old.trying ≡ call = (let e : Some (trying.call_of old.trying) ≡ Some call = c in cc) in
-        let effect = verdict_effect old m.0 reply m.2 m.1 (asked_is m.2 m.4) (tried_effect old.trying m.0 reply m.1 sound.trying m.3) in
+        let effect = change_did (shard_of old) old.trying.step (trying.call_of old.trying) reply (record old { trying = m.0 }) m.2 (outcome m.0 (own_member old) m.1)
+        (change_effect (own_member old) old.trying m.0 reply sound.trying m.1 m.3) in
         subst (λ (p : Poll ReadAnswer). Effect (shard_of old) old.trying.step call reply p) (sym m.5)
         (subst (λ (k : Call). Effect (shard_of old) old.trying.step k reply (verdict (record old { trying = m.0 }) m.2 m.1)) same effect)
     go (Some q) c m = stage_effect (shard_of old) old.trying.step call reply (counted old) new poll q old.stage m

@@ -21,9 +21,8 @@ use Rattle.store_core.specs.Newest.{mine_back, replay_back}
 use Rattle.state_core.specs.Lists.{Among}
 use Rattle.state_core.specs.declared.kinds.Kind.TheVariants.{Reader as AsReader}
 use Rattle.state_core.specs.declared.transitions.Transition.{Transition}
-use Rattle.state_core.specs.declared.transitions.Transition.TheVariants.{Join}
+use Rattle.state_core.specs.declared.transitions.Transition.TheVariants.{Advance, Join, Leave, Renew}
 use Rattle.state_core.specs.declared.refusals.Refusal.{Refusal}
-use Rattle.state_core.specs.declared.refusals.Refusal.TheVariants as refusals
 use Rattle.state_core.specs.Steps.{Applies}
 use Rattle.state_core.specs.States.{ShardState, Names}
 use Rattle.state_core.specs.VersionReading.{most, version_in}
@@ -67,13 +66,16 @@ use Rattle.read_client.specs.declared.questions.Question.TheVariants as question
 use Rattle.read_client.specs.declared.readers.Reader.{Reader}
 use Rattle.read_client.specs.declared.stages.Stage.{Stage}
 use Rattle.read_client.specs.declared.stages.Stage.TheVariants as stages
-use Rattle.read_client.specs.Asking.{look_of}
+use Rattle.read_client.specs.Asking.{look_of, question_of}
 use Rattle.read_client.specs.Following.{Follows, FollowsStage, IsRead, SinceGot, SinceMissing, SinceScan, own_count}
-use Rattle.read_client.specs.Reading.{IsAsked, IsGetting, change_refused, is_gone, since_of, IsOpen, IsReading, IsSound, Moves, MovesAfterTry, MovesBy, MovesByFetched, Wants, WantsBy, after_poll, call_of, committed_answer, counted, expired, holding, last_member, look_poll, missing_poll, own_member, question, refused_poll, rows_answer, shard_of, staged, strange, verdict, newest_number}
+use Rattle.change_core.specs.Changes.{committed_outcome, is_gone, last_member, since_of}
+use Rattle.change_core.proofs.Forms.{refused_as}
+use Rattle.read_client.specs.Reading.{AsksAs, IsAsked, IsGetting, IsOpen, IsReading, IsSound, Moves, MovesAfterTry, MovesBy, MovesByFetched, Wants, WantsBy, after_poll, call_of, change_poll, counted, expired, gone_answer, holding, look_poll, missing_poll, own_member, question, rows_answer, shard_of, staged, strange, verdict}
 use Rattle.read_client.proofs.HowRead.{IsScanStage, HowGot, gains, fails, misses, spoilt, heavy, HowRead, unscanned, damaged, scanned, checked, got, how_read}
 use Rattle.read_client.proofs.Looks.{all_named, no_join, parts_some, reads_parts}
 use Rattle.read_client.proofs.Calling.{Asks, scans, gets, reads_call, tries_call}
-use Rattle.read_client.proofs.Sound.{Ends, asking, kept_trying, missing_ends, by_number}
+use Rattle.read_client.proofs.Changing.{Changed, opens, advances, renews, closes, changed}
+use Rattle.read_client.proofs.Sound.{Ends, asking, kept_trying, missing_ends}
 use Rattle.read_client.proofs.Stretch.{all_more, count_more, get_shows, behind_scan, mine_since, part_there, split_more}
 
 -- ---- after a poll
@@ -208,30 +210,21 @@ either_opens false p q h k = k
 missing_opens : (r : Reader) (key : PartKey) → opened_of (missing_poll r key) ≡ None
 missing_opens r key = either_opens (is_gone (own_member r) r.trying.loader.cached) (expired r) (polls.Damaged (damages.Missing key)) refl refl
 
-change_opens : (r : Reader) (refusal : Refusal) → opened_of (change_refused r refusal) ≡ None
-change_opens r (refusals.Back since) = refl
-change_opens r refusals.Shape = either_opens (is_gone (own_member r) r.trying.loader.cached) (expired r) (strange r) refl refl
-change_opens r refusals.Memory = either_opens (is_gone (own_member r) r.trying.loader.cached) (expired r) (strange r) refl refl
-change_opens r refusals.Spent = either_opens (is_gone (own_member r) r.trying.loader.cached) (expired r) (strange r) refl refl
-change_opens r refusals.NoMember = either_opens (is_gone (own_member r) r.trying.loader.cached) (expired r) (strange r) refl refl
-change_opens r (refusals.TokenOld token) = either_opens (is_gone (own_member r) r.trying.loader.cached) (expired r) (strange r) refl refl
-change_opens r (refusals.UpperIs upper) = either_opens (is_gone (own_member r) r.trying.loader.cached) (expired r) (strange r) refl refl
-change_opens r (refusals.Heavy weight) = either_opens (is_gone (own_member r) r.trying.loader.cached) (expired r) (strange r) refl refl
-change_opens r (refusals.MembersFull count) = either_opens (is_gone (own_member r) r.trying.loader.cached) (expired r) (strange r) refl refl
-change_opens r refusals.NotPresent = either_opens (is_gone (own_member r) r.trying.loader.cached) (expired r) (strange r) refl refl
-change_opens r refusals.NotDue = either_opens (is_gone (own_member r) r.trying.loader.cached) (expired r) (strange r) refl refl
+gone_opens : (asked : Asked) (version : ℕ) → opened_of (polls.Done (gone_answer asked version)) ≡ None
+gone_opens (asks.OpenReader shard now lease) version = refl
+gone_opens (asks.Advance to) version = refl
+gone_opens (asks.RenewReader now) version = refl
+gone_opens (asks.OpenWriter shard) version = refl
+gone_opens (asks.Append rows expected new) version = refl
+gone_opens asks.CloseWriter version = refl
+gone_opens (asks.Snapshot t) version = refl
+gone_opens (asks.Listen as_of) version = refl
+gone_opens asks.Next version = refl
+gone_opens asks.CloseReader version = refl
 
-refused_opens : (r : Reader) (asked : Asked) (refusal : Refusal) → opened_of (refused_poll r asked refusal) ≡ None
-refused_opens r (asks.OpenReader shard now lease) refusal = by_number (λ (p : Poll ReadAnswer). opened_of p ≡ None) (newest_number r) (λ last. refl) refl
-refused_opens r (asks.Advance to) refusal = change_opens r refusal
-refused_opens r (asks.RenewReader now) refusal = change_opens r refusal
-refused_opens r (asks.OpenWriter shard) refusal = refl
-refused_opens r (asks.Append rows expected new) refusal = refl
-refused_opens r asks.CloseWriter refusal = refl
-refused_opens r (asks.Snapshot t) refusal = refl
-refused_opens r (asks.Listen as_of) refusal = refl
-refused_opens r asks.Next refusal = refl
-refused_opens r asks.CloseReader refusal = refl
+refused_opens : (r : Reader) (asked : Asked) (refusal : Refusal) → opened_of (verdict r asked (tries.Refused refusal)) ≡ None
+refused_opens r asked refusal = refused_as (λ o. opened_of (change_poll r asked o) ≡ None) r.trying.loader.cached (own_member r) r.trying.step refusal refl
+    (λ v. refl) (λ v. gone_opens asked v) (λ v. refl) (λ v. refl)
 
 get_no_scan : (key : PartKey) (shard : ShardId) (from : ℕ) → calls.Get key ≡ calls.Scan shard from → ⊥
 get_no_scan key shard from h = cc
@@ -325,25 +318,32 @@ module _ (start : Stored) (list : List Update) (client : ℕ) (ready : Reader) (
                   (subst (λ (q : Reply). IsKindJoin AsReader (shard_of ready) joined (calls.Cas (shard_of ready) c.carries.expected c.carries.bytes) q) (sym c.carries.reply_is)
                   (refl, subst (λ o. KindJoins o AsReader joined) (sym reads) (refl, count)))
 
-          by_committed : (v : ℕ) → tried ≡ tries.Committed v → (a : Asked) → asked ≡ a → JoinedAs AsReader (mine_back start (e ∷ (others ++ es)) client) t.loader.shard joined
-          by_committed v h (asks.OpenReader shard now lease) a = on_open v h shard now lease a (told (tries.Committed v) h ∙ ap (λ (k : Asked). polls.Done (committed_answer (record ready { trying = t }) k v)) a)
-          by_committed v h (asks.Advance to) a = absurd (no (polls.Done (answers.Advanced v)) (told (tries.Committed v) h ∙ ap (λ (k : Asked). polls.Done (committed_answer (record ready { trying = t }) k v)) a) refl)
-          by_committed v h (asks.RenewReader now) a = absurd (no (polls.Done (answers.Renewed v)) (told (tries.Committed v) h ∙ ap (λ (k : Asked). polls.Done (committed_answer (record ready { trying = t }) k v)) a) refl)
-          by_committed v h (asks.OpenWriter shard) a = absurd (no (polls.Done (answers.Closed v)) (told (tries.Committed v) h ∙ ap (λ (k : Asked). polls.Done (committed_answer (record ready { trying = t }) k v)) a) refl)
-          by_committed v h (asks.Append rows expected n) a = absurd (no (polls.Done (answers.Closed v)) (told (tries.Committed v) h ∙ ap (λ (k : Asked). polls.Done (committed_answer (record ready { trying = t }) k v)) a) refl)
-          by_committed v h asks.CloseWriter a = absurd (no (polls.Done (answers.Closed v)) (told (tries.Committed v) h ∙ ap (λ (k : Asked). polls.Done (committed_answer (record ready { trying = t }) k v)) a) refl)
-          by_committed v h (asks.Snapshot at) a = absurd (no (polls.Done (answers.Closed v)) (told (tries.Committed v) h ∙ ap (λ (k : Asked). polls.Done (committed_answer (record ready { trying = t }) k v)) a) refl)
-          by_committed v h (asks.Listen as_of) a = absurd (no (polls.Done (answers.Closed v)) (told (tries.Committed v) h ∙ ap (λ (k : Asked). polls.Done (committed_answer (record ready { trying = t }) k v)) a) refl)
-          by_committed v h asks.Next a = absurd (no (polls.Done (answers.Closed v)) (told (tries.Committed v) h ∙ ap (λ (k : Asked). polls.Done (committed_answer (record ready { trying = t }) k v)) a) refl)
-          by_committed v h asks.CloseReader a = absurd (no (polls.Done (answers.Closed v)) (told (tries.Committed v) h ∙ ap (λ (k : Asked). polls.Done (committed_answer (record ready { trying = t }) k v)) a) refl)
+          -- what a commit of a change is answered
+          in_told : (v : ℕ) → tried ≡ tries.Committed v → (a : Asked) (step : Transition) → asked ≡ a → ready.trying.step ≡ step →
+              poll ≡ change_poll (record ready { trying = t }) a (committed_outcome t.loader.cached step v)
+          in_told v h a step ask is = told (tries.Committed v) h
+              ∙ ap (λ (x : Transition). change_poll (record ready { trying = t }) asked (committed_outcome t.loader.cached x v)) (same.step ∙ is)
+              ∙ ap (λ (k : Asked). change_poll (record ready { trying = t }) k (committed_outcome t.loader.cached step v)) ask
+
+          asked_so : AsksAs (shard_of ready) ready.member ready.trying.step ready.listen asked
+          asked_so = subst (λ (o : Option Asked). IfSome o (IsAsked ready)) asked_is s.asked
+
+          asks_none : question_of (Some asked) ready.listen ≡ None
+          asks_none = subst (λ (o : Option Asked). question_of o ready.listen ≡ None) asked_is none
+
+          by_committed : (v : ℕ) → tried ≡ tries.Committed v → Changed ready asked → JoinedAs AsReader (mine_back start (e ∷ (others ++ es)) client) t.loader.shard joined
+          by_committed v h (opens shard now lease a here_is step) = on_open v h shard now lease a (in_told v h (asks.OpenReader shard now lease) (Join AsReader now lease) a step)
+          by_committed v h (advances to member a is step) = absurd (no (polls.Done (answers.Advanced v)) (in_told v h (asks.Advance to) (Advance member to) a step) refl)
+          by_committed v h (renews now member a is step) = absurd (no (polls.Done (answers.Renewed v)) (in_told v h (asks.RenewReader now) (Renew member now) a step) refl)
+          by_committed v h (closes member a is step) = absurd (no (polls.Done (answers.Closed v)) (in_told v h asks.CloseReader (Leave member) a step) refl)
 
           by_tried : (k : Tried) → tried ≡ k → JoinedAs AsReader (mine_back start (e ∷ (others ++ es)) client) t.loader.shard joined
-          by_tried (tries.Committed v) h = by_committed v h asked refl
+          by_tried (tries.Committed v) h = by_committed v h (changed ready asked asks_none asked_so)
           by_tried tries.Begun h = absurd (no polls.More (told tries.Begun h) refl)
           by_tried tries.Again h = absurd (no polls.More (told tries.Again h) refl)
           by_tried tries.Goes h = absurd (no polls.More (told tries.Goes h) refl)
           by_tried tries.Fault h = absurd (no polls.Fault (told tries.Fault h) refl)
-          by_tried (tries.Refused refusal) h = absurd (no (refused_poll (record ready { trying = t }) asked refusal) (told (tries.Refused refusal) h) (refused_opens (record ready { trying = t }) asked refusal))
+          by_tried (tries.Refused refusal) h = absurd (no (verdict (record ready { trying = t }) asked (tries.Refused refusal)) (told (tries.Refused refusal) h) (refused_opens (record ready { trying = t }) asked refusal))
           by_tried tries.Spent h = absurd (no polls.Spent (told tries.Spent h) refl)
           by_tried (tries.Damaged damage) h = absurd (no (polls.Damaged damage) (told (tries.Damaged damage) h) refl)
 

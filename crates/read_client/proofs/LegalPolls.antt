@@ -35,7 +35,8 @@ use Rattle.read_client.specs.Following.{Follows}
 use Rattle.machine_core.specs.Machines as machines
 use Rattle.read_client.specs.Machining.{command_in, kept, machine}
 use Rattle.read_client.specs.Polling.{ReadsParts}
-use Rattle.read_client.specs.Reading.{after_poll, expired, is_gone, number_of, own_member, shard_of}
+use Rattle.change_core.specs.Changes.{is_gone, number_of}
+use Rattle.read_client.specs.Reading.{after_poll, expired, own_member, shard_of}
 use Rattle.read_client.proofs.Places.{kind_back, places_now}
 
 -- the value that is there

@@ -1,6 +1,7 @@
 pub mod Begun
 pub mod Calling
 pub mod ChangeLegality
+pub mod Changing
 pub mod Costs
 pub mod Effects
 pub mod FollowsOn

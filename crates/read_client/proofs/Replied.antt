@@ -38,6 +38,7 @@ use Rattle.load_core.specs.Following.{FollowsTrying}
 use Rattle.load_core.specs.Loading.{scan_from, scan_of}
 use Rattle.load_core.specs.Trying as trying
 use Rattle.load_core.proofs.Replied.{IsStop, stop_shown, tried_failed}
+use Rattle.change_core.proofs.Forms.{committed_as}
 use Rattle.read_client.specs.declared.questions.Question.{Question}
 use Rattle.read_client.specs.declared.questions.Question.TheVariants as questions
 use Rattle.read_client.specs.declared.readers.Reader.{Reader}
@@ -45,7 +46,7 @@ use Rattle.read_client.specs.declared.stages.Stage.{Stage}
 use Rattle.read_client.specs.declared.stages.Stage.TheVariants as stages
 use Rattle.read_client.specs.Following.{Follows}
 use Rattle.read_client.specs.Polling.{CostAt, CostBy, IsRefusal, ReadCost}
-use Rattle.read_client.specs.Reading.{IsGetting, IsReading, IsSound, Moves, MovesAfterCheck, MovesAfterScan, MovesBy, MovesByFetched, MovesByStage, call_by, call_of, committed_answer, counted, question, read_call, rows_answer, shard_of, verdict}
+use Rattle.read_client.specs.Reading.{IsGetting, IsReading, IsSound, Moves, MovesAfterCheck, MovesAfterScan, MovesBy, MovesByFetched, MovesByStage, call_by, call_of, change_poll, counted, in_answer, question, read_call, rows_answer, shard_of, verdict}
 use Rattle.read_client.proofs.Looks.{parts_some, reads_parts}
 
 -- while a command goes on no call fails
@@ -65,20 +66,21 @@ goes_answered ready new r m failed = go (question ready) (subst (λ (q : Reply).
         cc
     go (Some q) h = told (counted ready) q ready.stage h
 
-change_goes : (w : Reader) (asked : Asked) (version : ℕ) → IsRefusal (polls.Done (committed_answer w asked version)) → ⊥
-change_goes w (asks.OpenReader shard now lease) version h = h
-change_goes w (asks.Advance to) version h = h
-change_goes w (asks.RenewReader now) version h = h
-change_goes w asks.CloseReader version h = h
-change_goes w (asks.Snapshot t) version h = h
-change_goes w (asks.Listen as_of) version h = h
-change_goes w asks.Next version h = h
-change_goes w (asks.OpenWriter shard) version h = h
-change_goes w (asks.Append rows expected new) version h = h
-change_goes w asks.CloseWriter version h = h
+change_goes : (asked : Asked) (version : ℕ) → IsRefusal (polls.Done (in_answer asked version)) → ⊥
+change_goes (asks.OpenReader shard now lease) version h = h
+change_goes (asks.Advance to) version h = h
+change_goes (asks.RenewReader now) version h = h
+change_goes asks.CloseReader version h = h
+change_goes (asks.Snapshot t) version h = h
+change_goes (asks.Listen as_of) version h = h
+change_goes asks.Next version h = h
+change_goes (asks.OpenWriter shard) version h = h
+change_goes (asks.Append rows expected new) version h = h
+change_goes asks.CloseWriter version h = h
 
 refused_stop : (w : Reader) (asked : Asked) (tried : Tried) → IsRefusal (verdict w asked tried) → IsStop tried
-refused_stop w asked (tries.Committed version) h = absurd (change_goes w asked version h)
+refused_stop w asked (tries.Committed version) h = absurd (committed_as (λ o. IsRefusal (change_poll w asked o) → ⊥) w.trying.loader.cached w.trying.step version (λ k. k)
+    (change_goes asked version) h)
 refused_stop w asked tries.Begun h = h
 refused_stop w asked tries.Again h = h
 refused_stop w asked tries.Goes h = h

@@ -1,5 +1,5 @@
 -- A reader is sound after what a reply comes to.
-use Rattle.std.proofs.Common.{◌≡◌, ℕ, Bool, true, false, Option, Some, None, Result, Ok, List, [], ◌∷◌, ◌⊎◌, inl, inr, refl, sym, ap, subst, ◌∙◌, arith, eqb}
+use Rattle.std.proofs.Common.{◌≡◌, ℕ, Bool, true, false, Option, Some, None, Result, Ok, List, [], ◌∷◌, ◌⊎◌, inl, inr, refl, sym, ap, subst, ◌∙◌, arith}
 use Rattle.std.specs.Prelude.{⊤, IsSome, IfSome, IsSomeAnd, unwrap_or, if◌then◌else◌}
 use Rattle.store_core.specs.declared.shards.ShardId.{ShardId}
 use Rattle.store_core.specs.declared.part_keys.PartKey.{PartKey}
@@ -7,10 +7,8 @@ use Rattle.store_core.specs.declared.versions.Version.{Version}
 use Rattle.store_core.specs.declared.replies.Reply.{Reply}
 use Rattle.store_core.specs.declared.replies.Reply.TheVariants as replies
 use Rattle.state_core.specs.declared.refusals.Refusal.{Refusal}
-use Rattle.state_core.specs.declared.refusals.Refusal.TheVariants as refusals
 use Rattle.state_core.specs.States.{ShardState}
 use Rattle.history_core.specs.declared.asked.Asked.{Asked}
-use Rattle.history_core.specs.declared.asked.Asked.TheVariants as asks
 use Rattle.history_core.specs.declared.read_answers.ReadAnswer.{ReadAnswer}
 use Rattle.load_core.specs.declared.damages.Damage.{Damage}
 use Rattle.load_core.specs.declared.damages.Damage.TheVariants as damages
@@ -19,7 +17,6 @@ use Rattle.load_core.specs.declared.fetches.Fetched.TheVariants as fetches
 use Rattle.load_core.specs.declared.gettings.Getting.{Getting}
 use Rattle.load_core.specs.declared.nexts.Next.TheVariants as nexts
 use Rattle.load_core.specs.declared.polls.Poll.{Poll}
-use Rattle.history_core.specs.declared.read_answers.ReadAnswer.TheVariants as answers
 use Rattle.load_core.specs.declared.polls.Poll.TheVariants as polls
 use Rattle.load_core.specs.declared.readies.Ready.{Ready}
 use Rattle.load_core.specs.declared.tries.Tried.{Tried}
@@ -31,6 +28,7 @@ use Rattle.load_core.specs.Trying as trying
 use Rattle.load_core.proofs.Outcomes.{HowMoved, scanned as try_scanned, failed as try_failed, cased as try_cased, how_moved}
 use Rattle.load_core.proofs.Causes.{newest_none}
 use Rattle.load_core.proofs.Runs.{moves_same}
+use Rattle.change_core.proofs.Forms.{committed_as, refused_as}
 use Rattle.read_client.specs.declared.questions.Look.{Look}
 use Rattle.read_client.specs.declared.questions.Look.TheVariants as looks
 use Rattle.read_client.specs.declared.questions.Question.{Question}
@@ -38,12 +36,10 @@ use Rattle.read_client.specs.declared.readers.Reader.{Reader}
 use Rattle.read_client.specs.declared.stages.Stage.{Stage}
 use Rattle.read_client.specs.declared.stages.Stage.TheVariants as stages
 use Rattle.read_client.specs.Asking.{look_of}
-use Rattle.read_client.specs.Reading.{GoesBy, IsAsked, IsGetting, IsOpen, IsReading, IsSound, Moves, MovesBy, MovesByFetched, MovesAfterTry, WantsBy, Wants, after_poll, change_refused, counted, expired, holding, is_gone, missing_poll, own_member, question, look_poll, refused_poll, rows_answer, staged, strange, verdict, full_poll, newest_number}
+use Rattle.change_core.specs.Changes.{is_gone}
+use Rattle.read_client.specs.Reading.{GoesBy, IsAsked, IsGetting, IsOpen, IsReading, IsSound, Moves, MovesAfterTry, MovesBy, MovesByFetched, Wants, WantsBy, after_poll, change_poll, counted, expired, holding, look_poll, missing_poll, own_member, question, rows_answer, staged, strange, verdict}
 use Rattle.read_client.proofs.Moving.{idle_sound, no_open, with_trying}
 use Rattle.read_client.proofs.HowRead.{HowGot, gains, fails, misses, spoilt, heavy, HowRead, unscanned, damaged, scanned, checked, got, how_read}
-use Rattle.std.proofs.lemmas.Bool.{eqb-true}
-use Rattle.state_core.proofs.ListLemmas.{bool_cases}
-use Rattle.state_core.specs.VersionReading.{most}
 
 -- ---- a command that has ended
 
@@ -105,38 +101,15 @@ either_ends : (b : Bool) (p q : Poll ReadAnswer) → Ends p → Ends q → Ends 
 either_ends true p q h k = h
 either_ends false p q h k = k
 
-pub change_ends : (r : Reader) (refusal : Refusal) → Ends (change_refused r refusal)
-change_ends r (refusals.Back since) = tt
-change_ends r refusals.Shape = either_ends (is_gone (own_member r) r.trying.loader.cached) (expired r) (strange r) tt tt
-change_ends r refusals.Memory = either_ends (is_gone (own_member r) r.trying.loader.cached) (expired r) (strange r) tt tt
-change_ends r refusals.Spent = either_ends (is_gone (own_member r) r.trying.loader.cached) (expired r) (strange r) tt tt
-change_ends r refusals.NoMember = either_ends (is_gone (own_member r) r.trying.loader.cached) (expired r) (strange r) tt tt
-change_ends r (refusals.TokenOld token) = either_ends (is_gone (own_member r) r.trying.loader.cached) (expired r) (strange r) tt tt
-change_ends r (refusals.UpperIs upper) = either_ends (is_gone (own_member r) r.trying.loader.cached) (expired r) (strange r) tt tt
-change_ends r (refusals.Heavy weight) = either_ends (is_gone (own_member r) r.trying.loader.cached) (expired r) (strange r) tt tt
-change_ends r (refusals.MembersFull count) = either_ends (is_gone (own_member r) r.trying.loader.cached) (expired r) (strange r) tt tt
-change_ends r refusals.NotPresent = either_ends (is_gone (own_member r) r.trying.loader.cached) (expired r) (strange r) tt tt
-change_ends r refusals.NotDue = either_ends (is_gone (own_member r) r.trying.loader.cached) (expired r) (strange r) tt tt
-
 pub missing_ends : (r : Reader) (key : PartKey) → Ends (missing_poll r key)
 missing_ends r key = either_ends (is_gone (own_member r) r.trying.loader.cached) (expired r) (polls.Damaged (damages.Missing key)) tt tt
 
--- an open that is refused is Spent at the last number, else 256 members stand
-pub by_number : (P : Poll ReadAnswer → Type 0) (number : ℕ) → (number ≡ most → P polls.Spent) → P (polls.Done (answers.MembersFull number)) →
-    P (full_poll number)
-by_number P number last many = elim (bool_cases (eqb number most)) [ inl e ↦ rw e (last (eqb-true number most e)) | inr e ↦ rw e many ]
+pub committed_ends : (r : Reader) (asked : Asked) (version : ℕ) → Ends (verdict r asked (tries.Committed version))
+committed_ends r asked version = committed_as (λ o. Ends (change_poll r asked o)) r.trying.loader.cached r.trying.step version tt tt
 
-pub refused_ends : (r : Reader) (asked : Asked) (refusal : Refusal) → Ends (refused_poll r asked refusal)
-refused_ends r (asks.OpenReader shard now lease) refusal = by_number Ends (newest_number r) (λ last. tt) tt
-refused_ends r (asks.Advance to) refusal = change_ends r refusal
-refused_ends r (asks.RenewReader now) refusal = change_ends r refusal
-refused_ends r (asks.OpenWriter shard) refusal = tt
-refused_ends r (asks.Append rows expected new) refusal = tt
-refused_ends r asks.CloseWriter refusal = tt
-refused_ends r (asks.Snapshot t) refusal = tt
-refused_ends r (asks.Listen as_of) refusal = tt
-refused_ends r asks.Next refusal = tt
-refused_ends r asks.CloseReader refusal = tt
+pub refused_ends : (r : Reader) (asked : Asked) (refusal : Refusal) → Ends (verdict r asked (tries.Refused refusal))
+refused_ends r asked refusal = refused_as (λ o. Ends (change_poll r asked o)) r.trying.loader.cached (own_member r) r.trying.step refusal tt
+    (λ v. tt) (λ v. tt) (λ v. tt) (λ v. tt)
 
 -- ---- a transition
 
@@ -229,7 +202,7 @@ knows_after old reply t tried moves some = go (how_moved old t reply tried moves
 
 -- what a verdict comes to, by what was tried
 pub verdict_ends : (r : Reader) (asked : Asked) (tried : Tried) → IsOver tried → Ends (verdict r asked tried)
-verdict_ends r asked (tries.Committed version) o = tt
+verdict_ends r asked (tries.Committed version) o = committed_ends r asked version
 verdict_ends r asked (tries.Refused refusal) o = refused_ends r asked refusal
 verdict_ends r asked tries.Spent o = tt
 verdict_ends r asked (tries.Damaged damage) o = tt

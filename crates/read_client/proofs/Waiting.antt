@@ -19,7 +19,6 @@ use Rattle.read_client.specs.declared.stages.Stage.{Stage}
 use Rattle.read_client.specs.declared.stages.Stage.TheVariants as stages
 use Rattle.read_client.specs.Following.{Follows, FollowsStage, IsRead, SinceGot, SinceMissing, SinceScan}
 use Rattle.read_client.specs.Reading.{question, shard_of}
-use Rattle.read_client.proofs.HowRead.{got}
 use Rattle.read_client.proofs.Stretch.{all_others, count_others}
 use Rattle.history_core.specs.declared.asked.Asked.{Asked}
 use Rattle.load_core.proofs.Following.{shows_on, with_newest}

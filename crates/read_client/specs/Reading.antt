@@ -1,5 +1,5 @@
 -- A reader: what it does next, and what a reply makes of it.
-use Rattle.std.specs.Prelude.{⊤, ◌≡◌, ℕ, ◌-◌, Bool, true, Option, Some, None, IsSome, IfSome, IsSomeAnd, unwrap_or, is_none, if◌then◌else◌, Result, Ok, Err, List, [], ◌∷◌, ◌==◌}
+use Rattle.std.specs.Prelude.{⊤, ◌≡◌, ℕ, Option, Some, None, IsSome, IfSome, IsSomeAnd, unwrap_or, if◌then◌else◌, Result, Ok, Err, List, [], ◌∷◌}
 use Rattle.update_core.specs.declared.updates.Update.{Update}
 use Rattle.update_core.specs.Frontiers.{after}
 use Rattle.update_core.specs.Updates.{slice_of, sum_of}
@@ -11,9 +11,6 @@ use Rattle.store_core.specs.declared.replies.Reply.TheVariants as replies
 use Rattle.state_core.specs.declared.kinds.Kind.TheVariants.{Reader as AsReader}
 use Rattle.state_core.specs.declared.transitions.Transition.{Transition}
 use Rattle.state_core.specs.declared.transitions.Transition.TheVariants.{Join, Leave, Renew, Advance}
-use Rattle.state_core.specs.declared.refusals.Refusal.{Refusal}
-use Rattle.state_core.specs.declared.refusals.Refusal.TheVariants as refusals
-use Rattle.state_core.specs.Refusals.{member_of}
 use Rattle.state_core.specs.States.{ShardState}
 use Rattle.history_core.specs.declared.asked.Asked.{Asked}
 use Rattle.history_core.specs.declared.asked.Asked.TheVariants as asks
@@ -27,12 +24,14 @@ use Rattle.load_core.specs.declared.gettings.Getting.{Getting}
 use Rattle.load_core.specs.declared.polls.Poll.{Poll}
 use Rattle.load_core.specs.declared.polls.Poll.TheVariants as polls
 use Rattle.load_core.specs.declared.tries.Tried.{Tried}
-use Rattle.load_core.specs.declared.tries.Tried.TheVariants as tries
 use Rattle.load_core.specs.declared.tryings.Trying.{Trying}
 use Rattle.load_core.specs.Getting as getting
 use Rattle.load_core.specs.Loading.{newest_after, scan_of}
 use Rattle.load_core.specs.Trying as trying
 use Rattle.load_core.specs.Trying.{IsScanning}
+use Rattle.change_core.specs.declared.outcomes.Outcome.{Outcome}
+use Rattle.change_core.specs.declared.outcomes.Outcome.TheVariants as outcomes
+use Rattle.change_core.specs.Changes.{is_gone, number_of, outcome}
 use Rattle.read_client.specs.declared.questions.Look.{Look}
 use Rattle.read_client.specs.declared.questions.Look.TheVariants as looks
 use Rattle.read_client.specs.declared.questions.Question.{Question}
@@ -41,7 +40,6 @@ use Rattle.read_client.specs.declared.readers.Reader.{Reader}
 use Rattle.read_client.specs.declared.stages.Stage.{Stage}
 use Rattle.read_client.specs.declared.stages.Stage.TheVariants as stages
 use Rattle.read_client.specs.Asking.{look_of, question_of}
-use Rattle.state_core.specs.VersionReading.{most}
 
 -- a reader whose open has begun
 abbrev pub opened : ShardId → ℕ → ℕ → Reader
@@ -127,27 +125,9 @@ Prepares old new = PreparesBy (question old) old new
 
 -- ---- the newest state
 
-abbrev pub number_of : Option ShardState → ℕ
-number_of None = 0
-number_of (Some s) = s.number
-
-abbrev pub since_of : Option ShardState → ℕ
-since_of None = 0
-since_of (Some s) = s.since
-
 abbrev pub upper_of : Option ShardState → Option ℕ
 upper_of None = Some 0
 upper_of (Some s) = s.upper
-
--- the last member of a state that has just joined
-abbrev pub last_member : Option ShardState → ℕ
-last_member None = 0
-last_member (Some s) = s.next_member - 1
-
--- whether a member doesn't stand
-abbrev pub is_gone : ℕ → Option ShardState → Bool
-is_gone member None = true
-is_gone member (Some s) = is_none (member_of member s.members)
 
 abbrev pub own_member : Reader → ℕ
 own_member r = unwrap_or r.member 0
@@ -191,35 +171,33 @@ after_poll r (polls.Done answer) = record r { asked = None; member = member_afte
 
 -- ---- what a reply to a call of a transition comes to
 
-abbrev pub committed_answer : Reader → Asked → ℕ → ReadAnswer
-committed_answer r (asks.OpenReader shard now lease) version = answers.Opened (last_member r.trying.loader.cached) version (since_of r.trying.loader.cached)
-committed_answer r (asks.Advance to) version = answers.Advanced version
-committed_answer r (asks.RenewReader now) version = answers.Renewed version
-committed_answer r _ version = answers.Closed version
+-- what is answered where a change that isn't a join is in
+abbrev pub in_answer : Asked → ℕ → ReadAnswer
+in_answer (asks.Advance to) version = answers.Advanced version
+in_answer (asks.RenewReader now) version = answers.Renewed version
+in_answer _ version = answers.Closed version
 
-abbrev pub change_refused : Reader → Refusal → Poll ReadAnswer
-change_refused r (refusals.Back since) = polls.Done (answers.Back since)
-change_refused r _ = if is_gone (own_member r) r.trying.loader.cached then expired r else strange r
+-- and where the member doesn't stand
+abbrev pub gone_answer : Asked → ℕ → ReadAnswer
+gone_answer (asks.Advance to) version = answers.Expired version
+gone_answer (asks.RenewReader now) version = answers.Expired version
+gone_answer _ version = answers.Closed version
 
--- what an open is answered where 256 members stand: that no number is left comes before
-abbrev pub full_poll : ℕ → Poll ReadAnswer
-full_poll number = if number == most then polls.Spent else polls.Done (answers.MembersFull number)
-
-abbrev pub refused_poll : Reader → Asked → Refusal → Poll ReadAnswer
-refused_poll r (asks.OpenReader shard now lease) refusal = full_poll (newest_number r)
-refused_poll r (asks.Advance to) refusal = change_refused r refusal
-refused_poll r (asks.RenewReader now) refusal = change_refused r refusal
-refused_poll r _ refusal = polls.Done (answers.Closed (newest_number r))
+-- what an open, a close, a renewal or an advance is answered
+abbrev pub change_poll : Reader → Asked → Outcome → Poll ReadAnswer
+change_poll r asked outcomes.Going = polls.More
+change_poll r asked outcomes.Fault = polls.Fault
+change_poll r asked outcomes.Spent = polls.Spent
+change_poll r asked (outcomes.Damaged damage) = polls.Damaged damage
+change_poll r asked (outcomes.Joined member version since) = polls.Done (answers.Opened member version since)
+change_poll r asked (outcomes.Full version) = polls.Done (answers.MembersFull version)
+change_poll r asked (outcomes.Committed version) = polls.Done (in_answer asked version)
+change_poll r asked (outcomes.Gone version) = polls.Done (gone_answer asked version)
+change_poll r asked (outcomes.Back since) = polls.Done (answers.Back since)
+change_poll r asked (outcomes.Strange version) = strange r
 
 abbrev pub verdict : Reader → Asked → Tried → Poll ReadAnswer
-verdict r asked (tries.Committed version) = polls.Done (committed_answer r asked version)
-verdict r asked tries.Begun = polls.More
-verdict r asked tries.Again = polls.More
-verdict r asked tries.Goes = polls.More
-verdict r asked tries.Fault = polls.Fault
-verdict r asked (tries.Refused refusal) = refused_poll r asked refusal
-verdict r asked tries.Spent = polls.Spent
-verdict r asked (tries.Damaged damage) = polls.Damaged damage
+verdict r asked tried = change_poll r asked (outcome r.trying (own_member r) tried)
 
 abbrev pub MovesAfterTry : Reader → Reply → Reader → Poll ReadAnswer → Type 0
 MovesAfterTry old reply new poll =

@@ -16,15 +16,17 @@ ghost use Rattle.machine_core.specs.Polling as machines;
 ghost use Rattle.machine_core.specs.Polling.{CostGoesOn, LegalWhere, Polled, Unpolled};
 ghost use Rattle.read_client.specs.Machining.{machine};
 ghost use Rattle.read_client.specs.Polling.{CostAt};
-ghost use Rattle.read_client.specs.Reading.{IsOpen, IsReading, IsSound, LooksAt, Moves, MovesAfterCheck, MovesAfterGet, MovesAfterScan, MovesAfterTry, MovesByStage, Wants, after_poll, call_of, change_refused, committed_answer, expired, full_poll, is_gone, last_member, listen_after, member_after, missing_poll, newest_number, opened, own_member, parts_poll, parts_staged, question, read_call, refused_poll, rows_answer, shard_of, since_of, staged, strange, upper_of};
+ghost use Rattle.change_core.specs.Changes.{is_gone};
+ghost use Rattle.read_client.specs.Reading.{IsOpen, IsReading, IsSound, LooksAt, Moves, MovesAfterCheck, MovesAfterGet, MovesAfterScan, MovesAfterTry, MovesByStage, Wants, after_poll, call_of, change_poll, expired, gone_answer, in_answer, listen_after, member_after, missing_poll, newest_number, opened, own_member, parts_poll, parts_staged, question, read_call, rows_answer, shard_of, staged, strange, upper_of, verdict};
 ghost use Rattle.read_client.specs.declared.stages.Stage.TheVariants as stages;
 
 use crate::questions::{Look, Question};
 use crate::stages::Stage;
+use change_core::{Outcome, number_of, outcome_of};
 use history_core::{Asked, ReadAnswer};
 use load_core::{BeginFault, Damage, Fetched, Getting, Loader, Poll, Seen, Tried, Trying};
 use spine_core::KeyList;
-use state_core::{Kind, Refusal, State, Transition};
+use state_core::{Kind, State, Transition};
 use std::alloc::{AllocError, Global};
 use store_core::{PartKey, Port, Reply, ShardId};
 use update_core::{Frontier, RowList, UpdateList, slice_between, sum_at};
@@ -298,13 +300,9 @@ impl Reader {
         ensures getting { self.new.getting ≡ self.old.getting }
         ensures memory { OnErr result (trying.IsScanning self.old.trying.next × (self.new ≡ record self.old { trying = trying.called self.old.trying })) }
     {
-        match self.trying.react(alloc, reply)? {
-            Tried::Refused(refusal) => Ok(self.refused_poll(refusal)),
-            Tried::Damaged(damage) => Ok(Poll::Damaged(damage)),
-            Tried::Committed { version } => Ok(Poll::Done(self.committed_answer(version))),
-            Tried::Spent => Ok(Poll::Spent),
-            Tried::Fault => Ok(Poll::Fault),
-            Tried::Begun | Tried::Again | Tried::Goes => Ok(Poll::More),
+        match self.trying.react(alloc, reply) {
+            Ok(tried) => Ok(self.verdict(tried)),
+            Err(fault) => Err(fault),
         }
     }
 
@@ -572,10 +570,7 @@ impl Reader {
     fn newest_number(&self) -> u64
         ensures { result ≡ newest_number self.now }
     {
-        match self.trying.loader.state() {
-            Some(state) => state.number(),
-            None => 0,
-        }
+        number_of(self.trying.loader.state())
     }
 
     fn newest_upper(&self) -> Frontier
@@ -584,25 +579,6 @@ impl Reader {
         match self.trying.loader.state() {
             Some(state) => state.upper(),
             None => Frontier::at(0),
-        }
-    }
-
-    fn newest_since(&self) -> u64
-        ensures { result ≡ since_of self.now.trying.loader.cached }
-    {
-        match self.trying.loader.state() {
-            Some(state) => state.since(),
-            None => 0,
-        }
-    }
-
-    // The number of the member that joined last.
-    fn last_member(&self) -> u64
-        ensures { result ≡ last_member self.now.trying.loader.cached }
-    {
-        match self.trying.loader.state() {
-            Some(state) => state.next_member().saturating_sub(1),
-            None => 0,
         }
     }
 
@@ -627,61 +603,60 @@ impl Reader {
 
     // ---- changing
 
-    fn committed_answer(&self, version: u64) -> ReadAnswer
-        ensures { IfSome self.now.asked (λ asked. result ≡ committed_answer self.now asked version) }
+    fn verdict(&self, tried: Tried) -> Poll<ReadAnswer>
+        ensures { IfSome self.now.asked (λ asked. result ≡ verdict self.now asked tried) }
+    {
+        self.change_poll(outcome_of(&self.trying, self.own_member(), tried))
+    }
+
+    // What an open, a close, a renewal or an advance is answered.
+    fn change_poll(&self, outcome: Outcome) -> Poll<ReadAnswer>
+        ensures { IfSome self.now.asked (λ asked. result ≡ change_poll self.now asked outcome) }
+    {
+        match outcome {
+            Outcome::Going => Poll::More,
+            Outcome::Fault => Poll::Fault,
+            Outcome::Spent => Poll::Spent,
+            Outcome::Damaged(damage) => Poll::Damaged(damage),
+            Outcome::Joined {
+                member,
+                version,
+                since,
+            } => {
+                Poll::Done(ReadAnswer::Opened {
+                    member,
+                    version,
+                    since,
+                })
+            }
+            Outcome::Full { version } => Poll::Done(ReadAnswer::MembersFull { version }),
+            Outcome::Committed { version } => Poll::Done(self.in_answer(version)),
+            Outcome::Gone { version } => Poll::Done(self.gone_answer(version)),
+            Outcome::Back { since } => Poll::Done(ReadAnswer::Back { since }),
+            Outcome::Strange { .. } => self.strange(),
+        }
+    }
+
+    fn in_answer(&self, version: u64) -> ReadAnswer
+        ensures { IfSome self.now.asked (λ asked. result ≡ in_answer asked version) }
     {
         match &self.asked {
-            Some(Asked::OpenReader { .. }) => ReadAnswer::Opened {
-                member: self.last_member(),
-                version,
-                since: self.newest_since(),
-            },
             Some(Asked::Advance { .. }) => ReadAnswer::Advanced { version },
             Some(Asked::RenewReader { .. }) => ReadAnswer::Renewed { version },
             _ => ReadAnswer::Closed { version },
         }
     }
 
-    fn refused_poll(&self, refusal: Refusal) -> Poll<ReadAnswer>
-        ensures { IfSome self.now.asked (λ asked. result ≡ refused_poll self.now asked refusal) }
+    fn gone_answer(&self, version: u64) -> ReadAnswer
+        ensures { IfSome self.now.asked (λ asked. result ≡ gone_answer asked version) }
     {
-        let version = self.newest_number();
         match &self.asked {
-            Some(Asked::OpenReader { .. }) => full_poll(version),
-            Some(Asked::Advance { .. }) | Some(Asked::RenewReader { .. }) => self.change_refused(
-                refusal,
-            ),
-            _ => Poll::Done(ReadAnswer::Closed { version }),
+            Some(Asked::Advance { .. }) | Some(Asked::RenewReader { .. }) => {
+                ReadAnswer::Expired { version }
+            }
+            _ => ReadAnswer::Closed { version },
         }
     }
-
-    fn change_refused(&self, refusal: Refusal) -> Poll<ReadAnswer>
-        ensures { result ≡ change_refused self.now refusal }
-    {
-        match refusal {
-            Refusal::Back { since } => Poll::Done(ReadAnswer::Back { since }),
-            _ => self.gone_or_strange(),
-        }
-    }
-
-    fn gone_or_strange(&self) -> Poll<ReadAnswer>
-        ensures { result ≡ (if is_gone (own_member self.now) self.now.trying.loader.cached then expired self.now else strange self.now) }
-    {
-        if self.is_gone() {
-            return self.expired();
-        }
-        self.strange()
-    }
-}
-
-// What an open is answered where 256 members stand. That no number is left comes before.
-fn full_poll(version: u64) -> Poll<ReadAnswer>
-    ensures { result ≡ full_poll version }
-{
-    if version == u64::MAX {
-        return Poll::Spent;
-    }
-    Poll::Done(ReadAnswer::MembersFull { version })
 }
 
 fn member_after(member: Option<u64>, answer: &ReadAnswer) -> Option<u64>

@@ -1,7 +1,25 @@
 use Rattle.std.proofs.Common.{map, string_bytes, ap, subst}
 use Rattle.persist_app.specs.Endings.{Performs}
-use Rattle.persist_app.proofs.TextRead.{line_refused}
+use Rattle.persist_app.proofs.TextRead.{line_refused, run_complete}
 use Rattle.persist_app.proofs.plain.persist_plain.Goals as goal
+
+pub returns-clause-complete : goal.returns-clause-complete
+returns-clause-complete g c =
+    λ status. let finished = c.finish.ensures.complete status in
+    let told = g.S.Store.history c.args.store in
+    let told_now = g.S.Store.history c.perform-ending.new.port.store in
+    let left = g.So.Source.left in
+    let faults = g.So.Source.faults in
+    let taken = g.Si.Sink.taken in
+    let puts = g.Si.Sink.faults in
+    let src = c.perform-ending.new.src in
+    let out = c.perform-ending.new.out in
+    let performed = subst (λ words. Performs words c.perform-ending.result told told_now (left c.args.src.now) (left src)
+    (faults c.args.src.now) (faults src) (taken c.args.out.now) (taken out) (puts c.args.out.now) (puts out)) (ap
+    (map string_bytes) c.deref.ensures.value) c.perform-ending.ensures.ends in
+    run_complete (map string_bytes c.args.words.now.items) c.perform-ending.result told told_now (left c.args.src.now) (left src)
+    (faults c.args.src.now) (faults src)
+    (taken c.args.out.now) (taken out) (taken c.finish.new.out) (puts c.args.out.now) (puts out) performed finished.0 finished.1
 
 pub returns-clause-line : goal.returns-clause-line
 returns-clause-line g c =
@@ -14,5 +32,9 @@ returns-clause-line g c =
     let puts = g.Si.Sink.faults in
     let src = c.perform-ending.new.src in
     let out = c.perform-ending.new.out in
-    let performed = subst (λ words. Performs words c.perform-ending.result told told_now (left c.args.src.now) (left src) (faults c.args.src.now) (faults src) (taken c.args.out.now) (taken out) (puts c.args.out.now) (puts out)) (ap (map string_bytes) c.deref.ensures.value) c.perform-ending.ensures.ends in
-    line_refused (map string_bytes c.args.words.now.items) c.perform-ending.result told told_now finished.0 (left c.args.src.now) (left src) (faults c.args.src.now) (faults src) (taken c.args.out.now) (taken out) (taken c.finish.new.out) (puts c.args.out.now) (puts out) performed finished.1 finished.2
+    let performed = subst (λ words. Performs words c.perform-ending.result told told_now (left c.args.src.now) (left src)
+    (faults c.args.src.now) (faults src) (taken c.args.out.now) (taken out) (puts c.args.out.now) (puts out)) (ap
+    (map string_bytes) c.deref.ensures.value) c.perform-ending.ensures.ends in
+    line_refused (map string_bytes c.args.words.now.items) c.perform-ending.result told told_now finished.0 (left c.args.src.now)
+    (left src) (faults c.args.src.now) (faults src) (taken c.args.out.now) (taken out) (taken c.finish.new.out)
+    (puts c.args.out.now) (puts out) performed finished.1 finished.2

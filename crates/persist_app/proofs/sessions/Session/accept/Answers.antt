@@ -12,7 +12,7 @@ use Rattle.driving.specs.Goings.{Goes}
 use Rattle.persist_app.specs.Sessions.{own_shard}
 use Rattle.persist_app.specs.PlainRuns.{append_text, view_with}
 use Rattle.persist_app.proofs.ReplyLaws.{append_begun, failed_replies, on_reply, ready_written}
-use Rattle.persist_app.proofs.SessionLaws.{AnswersAppendOf, appends}
+use Rattle.persist_app.proofs.WriteLaws.{AnswersAppendOf, appends}
 use Rattle.persist_app.proofs.sessions.Session.accept.Goals as goal
 
 pub returns-in_err-answer-clause-told : goal.returns-in_err-answer-clause-told

@@ -9,7 +9,7 @@ use Rattle.driving.specs.Goings.{Goes}
 use Rattle.persist_app.specs.Sessions.{own_shard}
 use Rattle.persist_app.specs.PlainRuns.{since_reply, view_since}
 use Rattle.persist_app.proofs.ReplyLaws.{asked_told, change_begun, failed_replies, on_reply, read_told, ready_read}
-use Rattle.persist_app.proofs.SessionLaws.{advancing}
+use Rattle.persist_app.proofs.ReadLaws.{advancing}
 use Rattle.persist_app.proofs.sessions.Session.advance.Goals as goal
 
 pub returns-in_err-answer-clause-told : goal.returns-in_err-answer-clause-told

@@ -7,7 +7,7 @@ use Rattle.persist_app.specs.Drives.{Failed}
 use Rattle.driving.specs.Goings.{Goes}
 use Rattle.persist_app.specs.Sessions.{own_shard}
 use Rattle.persist_app.proofs.ReplyLaws.{asked_told, change_begun}
-use Rattle.persist_app.proofs.SessionLaws.{leaves_reader}
+use Rattle.persist_app.proofs.ReadLaws.{leaves_reader}
 use Rattle.persist_app.proofs.sessions.Session.close_reader.Goals as goal
 
 pub returns-in_err-_answer-clause-told : goal.returns-in_err-_answer-clause-told

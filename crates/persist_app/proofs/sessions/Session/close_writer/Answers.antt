@@ -7,7 +7,7 @@ use Rattle.persist_app.specs.Drives.{Failed}
 use Rattle.driving.specs.Goings.{Goes}
 use Rattle.persist_app.specs.Sessions.{own_shard}
 use Rattle.persist_app.proofs.ReplyLaws.{close_begun, reader_waits}
-use Rattle.persist_app.proofs.SessionLaws.{leaves_writer}
+use Rattle.persist_app.proofs.WriteLaws.{leaves_writer}
 use Rattle.persist_app.proofs.sessions.Session.close_writer.Goals as goal
 
 pub returns-in_err-_answer-clause-told : goal.returns-in_err-_answer-clause-told

@@ -11,7 +11,7 @@ use Rattle.driving.specs.Goings.{Goes}
 use Rattle.persist_app.specs.Sessions.{own_shard}
 use Rattle.persist_app.specs.PlainRuns.{listen_text}
 use Rattle.persist_app.proofs.ReplyLaws.{asked_told, failed_replies, on_reply, read_begun, read_told, ready_read}
-use Rattle.persist_app.proofs.SessionLaws.{listens}
+use Rattle.persist_app.proofs.ReadLaws.{listens}
 use Rattle.persist_app.proofs.sessions.Session.listen.Goals as goal
 
 pub returns-in_err-answer-clause-told : goal.returns-in_err-answer-clause-told

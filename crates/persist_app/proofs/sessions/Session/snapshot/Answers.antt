@@ -9,7 +9,7 @@ use Rattle.driving.specs.Goings.{Goes}
 use Rattle.persist_app.specs.Sessions.{own_shard}
 use Rattle.persist_app.specs.PlainRuns.{snapshot_text}
 use Rattle.persist_app.proofs.ReplyLaws.{asked_told, failed_replies, on_reply, read_begun, read_told, ready_read}
-use Rattle.persist_app.proofs.SessionLaws.{snapshots}
+use Rattle.persist_app.proofs.ReadLaws.{snapshots}
 use Rattle.persist_app.proofs.sessions.Session.snapshot.Goals as goal
 
 pub returns-in_err-answer-clause-told : goal.returns-in_err-answer-clause-told

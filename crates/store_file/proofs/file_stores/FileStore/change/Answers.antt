@@ -20,7 +20,8 @@ invariant_of-self-then-added g c =
     let copy = c.in_ok-copy.copy in
     let change = ap (λ (t : Stored). changes t c.args.call.now) (s.replayed c.requires.open) ∙ c.requires.changes in
     record {
-      replayed = λ shut. noted (stored_of s.start.value) (stored_of s.current) (stored_of c.apply.new.self) s.trail.items c.note.new.trail.items
+      replayed = λ shut. noted (stored_of s.start.value) (stored_of s.current) (stored_of c.apply.new.self) s.trail.items
+          c.note.new.trail.items
           client c.args.call.now copy Took
           (s.replayed shut) c.in_ok-reply.ensures.ok c.in_ok-copy.ensures (c.note.ensures
           ∙ ap (λ (l : List Entry). l ++ entry_of client copy Took ∷ []) c.reserve.ensures.items);

@@ -1,0 +1,61 @@
+-- How a command over a store that was just opened ends.
+use Rattle.std.proofs.Common.{◌≡◌, ℕ, ◌≤◌, Bool, true, false, Option, Some, List, [], refl, sym, ap, subst, ◌∙◌}
+use Rattle.causes.specs.Causes.{Rose}
+use Rattle.store_core.specs.Stores.{Stored}
+use Rattle.store_core.specs.Histories.{History}
+use Rattle.journal_core.specs.declared.disks.Disk.{Ghosts}
+use Rattle.driving.specs.StoreTurns.{Extends}
+use Rattle.store_file.specs.declared.file_stores.FileStore.{FileStore}
+use Rattle.store_file.specs.FileStores.{disk_of, end_of, history_of, is_shut, store_now, told}
+use Rattle.store_file.specs.Replays.{Keeps}
+use Rattle.store_file.proofs.Keeping.{keeps_stands}
+use Rattle.persist_app.specs.DiskLefts.{StandsWhereTold, opened}
+use Rattle.persist_app.specs.PlainEnds.{EndsPlainly}
+use Rattle.persist_app.proofs.DiskOpenings.{rose_before}
+
+-- the count that is looked at may be an earlier one
+pub ends_since : (words : List (List ℕ)) (status : ℕ) (told told_now : Option History) (early failed failed_now : ℕ)
+    (left left_now : Option (List ℕ)) (reads reads_now faults faults_now : ℕ) (taken taken_now : Option (List ℕ)) (puts puts_now : ℕ)
+    → early ≤ failed → EndsPlainly words status told told_now failed failed_now left left_now reads reads_now faults faults_now taken taken_now puts puts_now
+    → EndsPlainly words status told told_now early failed_now left left_now reads reads_now faults faults_now taken taken_now puts puts_now
+ends_since words status told told_now early failed failed_now left left_now reads reads_now faults faults_now taken taken_now puts puts_now
+    le e =
+    record {
+      statuses = e.statuses;
+      complete = e.complete;
+      no_command = e.no_command;
+      line = e.line;
+      input = e.input;
+      output = e.output;
+      store_failed = λ six. ((e.store_failed six).0, (e.store_failed six).1, (rose_before early failed failed_now le (e.store_failed six).2.0, (e.store_failed six).2.1));
+      damaged = e.damaged;
+      members_full = e.members_full;
+      spent = e.spent;
+      reading = e.reading;
+      store = e.store;
+      lawful = e.lawful;
+      untouched = e.untouched;
+    }
+
+history_is : (h k : History) → Some h ≡ Some k → h ≡ k
+history_is h k e = cc
+
+same_history : (s : Stored) (h : History) → h.start ≡ s → h.trail ≡ [] → h ≡ record { start = s; trail = [] }
+same_history s h start trail = λ i. record { start = start i; trail = trail i }
+
+-- a history without calls is the start of one that has grown from it
+pub started : (h k : History) → h.trail ≡ [] → Extends (Some h) (Some k) → Some h ≡ Some (record { start = k.start; trail = [] })
+started h k trail (after, is, grown) =
+    ap Some (same_history k.start h (sym (ap (λ (x : History). x.start) (history_is k after is) ∙ grown.start)) trail)
+
+unshut : (shut : Bool) (before now : ℕ) → (shut ≡ true → Rose before now) → (Rose before now → ⊥) → shut ≡ false
+unshut true before now rose none = absurd (none (rose refl))
+unshut false before now rose none = refl
+
+module _ {D : Type 0} {G : Ghosts D} where
+  -- a store whose disk hasn't failed is what the disk's bytes stand for
+  pub stands_now : (s : FileStore D G) (before now : ℕ) → (is_shut s ≡ true → Rose before now) → (Rose before now → ⊥)
+      → StandsWhereTold (disk_of s) (store_now s)
+  stands_now s before now rose none h is =
+      let shut = unshut (is_shut s) before now rose none in
+      keeps_stands (store_now s) (end_of s) h (subst (λ (t : Stored). Keeps t (end_of s) h) (s.replayed shut) (s.kept h is shut))

@@ -1,0 +1,58 @@
+// A command over a store in a file.
+ghost use Rattle.std.specs.Prelude.{◌≡◌, true, false, map, string_bytes};
+ghost use Rattle.causes.specs.Causes.{Rose};
+ghost use Rattle.store_file.specs.FileStores.{told, is_shut, disk_faults, file_faults};
+ghost use Rattle.persist_app.specs.PlainEnds.{EndsPlainly};
+
+use crate::clocks::Clock;
+use crate::ends::Ended;
+use crate::plain::persist_plain;
+use crate::watched::{Watch, Watched};
+use feed_text::{Sink, Source};
+use journal_core::Disk;
+use std::alloc::Global;
+use std::marker::{Brand, PhantomData};
+use store_file::FileStore;
+
+// The one place that says which call does what the words say.
+fn watch<So: Source, Si: Sink, D: Disk, K: Clock, W: Watch>(
+    alloc: Global,
+    words: &Vec<String>,
+    src: &mut So,
+    out: &mut Si,
+    store: FileStore<D>,
+    clock: &mut K,
+    _of: PhantomData<W>,
+) -> Ended<FileStore<D>>
+    requires open { is_shut store ≡ false }
+    requires count { W.count ≡ disk_faults store }
+    ensures ends { EndsPlainly (map string_bytes words.now.items) result.status (told store) (told result.store)
+        (file_faults store) (file_faults result.store) (So.left src.old) (So.left src.new) (So.reads src.old) (So.reads src.new)
+        (So.faults src.old) (So.faults src.new) (Si.taken out.old) (Si.taken out.new) (Si.faults out.old) (Si.faults out.new) }
+    ensures shut { is_shut result.store ≡ true → Rose W.count (disk_faults result.store) }
+{
+    let of: PhantomData<W> = PhantomData;
+    let Ended {
+        status,
+        store: Watched { store, .. },
+    } = persist_plain(alloc, words, src, out, Watched { store, of }, clock);
+    Ended { status, store }
+}
+
+/// Does what the words say over a store in a file.
+pub fn over_file<So: Source, Si: Sink, D: Disk, K: Clock>(
+    alloc: Global,
+    words: &Vec<String>,
+    src: &mut So,
+    out: &mut Si,
+    store: FileStore<D>,
+    clock: &mut K,
+) -> Ended<FileStore<D>>
+    requires open { is_shut store ≡ false }
+    ensures ends { EndsPlainly (map string_bytes words.now.items) result.status (told store) (told result.store)
+        (file_faults store) (file_faults result.store) (So.left src.old) (So.left src.new) (So.reads src.old) (So.reads src.new)
+        (So.faults src.old) (So.faults src.new) (Si.taken out.old) (Si.taken out.new) (Si.faults out.old) (Si.faults out.new) }
+    ensures shut { is_shut result.store ≡ true → Rose (disk_faults store) (disk_faults result.store) }
+{
+    watch::<So, Si, D, K, Brand>(alloc, words, src, out, store, clock, PhantomData)
+}
