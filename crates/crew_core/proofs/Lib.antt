@@ -9,3 +9,4 @@ mod Examples
 mod FeedLaws
 pub mod Keeping
 mod Splits
+mod WorkedCrew
