@@ -45,7 +45,7 @@ use Rattle.load_core.proofs.Replied.{stop_shown}
 use Rattle.load_core.proofs.Runs.{moves_same}
 use Rattle.change_core.specs.declared.outcomes.Outcome.{Outcome}
 use Rattle.change_core.specs.declared.outcomes.Outcome.TheVariants as outcomes
-use Rattle.change_core.specs.Changes.{AsksBefore, ChangesAs, IsAnswerTo, IsChange, IsOfMember, Joins, committed_outcome, full_outcome, is_gone, join_outcome, last_member, member_outcome, number_of, outcome, refused_outcome, since_of}
+use Rattle.change_core.specs.Changes.{AsksBefore, ChangesAs, IsAnswerTo, IsChange, IsOfMember, Joins, committed_outcome, full_outcome, last_member, outcome, refused_outcome, since_of}
 use Rattle.change_core.specs.Legality.{ChangeEffect, ChangesAt, JoinedIn, LegalChange}
 use Rattle.change_core.proofs.Forms.{join_form, member_form, refused_as}
 use Rattle.change_core.proofs.Members.{among_now, found_kind, found_stands, kind_back, none_stands, scan_now}
@@ -56,9 +56,11 @@ use Rattle.change_core.proofs.Members.{among_now, found_kind, found_stands, kind
 pub data Why (member : ℕ) (s : ShardState) (step : Transition) (refusal : Refusal) : Type 0 where
   full : (count : ℕ) → refusal ≡ refusals.MembersFull count → length s.members ≡ 256 → Joins step → Why member s step refusal
   absent : refusal ≡ refusals.NoMember → member_of member s.members ≡ None → IsOfMember step → Why member s step refusal
-  back : (since : ℕ) → refusal ≡ refusals.Back since → Stands member (λ m. m.since ≡ since) s.members → AsksBefore since step → IsOfMember step → Why member s step refusal
+  back : (since : ℕ) → refusal ≡ refusals.Back since → Stands member (λ m. m.since ≡ since) s.members → AsksBefore since step →
+      IsOfMember step → Why member s step refusal
 
-join_why : (member : ℕ) (s : ShardState) (kind : Kind) (now lease : ℕ) (refusal : Refusal) → IsState s → refusal_by_kind s (Join kind now lease) ≡ Some refusal → Why member s (Join kind now lease) refusal
+join_why : (member : ℕ) (s : ShardState) (kind : Kind) (now lease : ℕ) (refusal : Refusal) → IsState s →
+    refusal_by_kind s (Join kind now lease) ≡ Some refusal → Why member s (Join kind now lease) refusal
 join_why member s kind now lease refusal rules h = elim (leb_tells 256 (length s.members)) [
   | inl p ↦
       let le : 256 ≤ length s.members = p.1 in
@@ -70,8 +72,10 @@ join_why member s kind now lease refusal rules h = elim (leb_tells 256 (length s
 ]
 
 -- a change of a member that stands and fits is refused only for what it asks
-member_why : (member : ℕ) (s : ShardState) (step : Transition) (fits : Kind → Bool) (next : Member → Option Refusal) (refusal : Refusal) → IsOfMember step → ((m : Member) → member_of member s.members ≡ Some m → fits m.kind ≡ true) →
-    ((m : Member) → member_of member s.members ≡ Some m → next m ≡ Some refusal → Why member s step refusal) → of_member (member_of member s.members) fits next ≡ Some refusal → Why member s step refusal
+member_why : (member : ℕ) (s : ShardState) (step : Transition) (fits : Kind → Bool) (next : Member → Option Refusal) (refusal : Refusal) →
+    IsOfMember step → ((m : Member) → member_of member s.members ≡ Some m → fits m.kind ≡ true) →
+    ((m : Member) → member_of member s.members ≡ Some m → next m ≡ Some refusal → Why member s step refusal) →
+    of_member (member_of member s.members) fits next ≡ Some refusal → Why member s step refusal
 member_why member s step fits next refusal of fit asked h = go (member_of member s.members) refl h
   where
     go : (o : Option Member) → member_of member s.members ≡ o → of_member o fits next ≡ Some refusal → Why member s step refusal
@@ -81,7 +85,8 @@ member_why member s step fits next refusal of fit asked h = go (member_of member
 none_asked : (A : Type 0) (refusal : Refusal) → None ≡ Some refusal → A
 none_asked A refusal bad = absurd (cc)
 
-since_why : (member to : ℕ) (s : ShardState) (m : Member) (refusal : Refusal) → member_of member s.members ≡ Some m → cond (ltb to m.since) (Some (refusals.Back m.since)) None ≡ Some refusal → Why member s (Advance member to) refusal
+since_why : (member to : ℕ) (s : ShardState) (m : Member) (refusal : Refusal) → member_of member s.members ≡ Some m →
+    cond (ltb to m.since) (Some (refusals.Back m.since)) None ≡ Some refusal → Why member s (Advance member to) refusal
 since_why member to s m refusal is k = elim (bool_cases (ltb to m.since)) [
   | inl e ↦
       let k2 : Some (refusals.Back m.since) ≡ Some refusal = rw e at k in
@@ -90,30 +95,39 @@ since_why member to s m refusal is k = elim (bool_cases (ltb to m.since)) [
   | inr e ↦ absurd (let bad : None ≡ Some refusal = rw e at k in cc)
 ]
 
-pub why : (kind : Kind) (member : ℕ) (s : ShardState) (step : Transition) (refusal : Refusal) → IsState s → IsChange kind member step → (IsOfMember step → HasKind kind member s) → standing_refusal s step ≡ Some refusal → Why member s step refusal
+pub why : (kind : Kind) (member : ℕ) (s : ShardState) (step : Transition) (refusal : Refusal) → IsState s → IsChange kind member step →
+    (IsOfMember step → HasKind kind member s) → standing_refusal s step ≡ Some refusal → Why member s step refusal
 why kind member s step refusal rules change kinds h = by step change.changes kinds (let shaped = change.shaped s in rw shaped at h)
   where
-    by : (x : Transition) → ChangesAs kind member x → (IsOfMember x → HasKind kind member s) → refusal_by_kind s x ≡ Some refusal → Why member s x refusal
+    by : (x : Transition) → ChangesAs kind member x → (IsOfMember x → HasKind kind member s) → refusal_by_kind s x ≡ Some refusal →
+        Why member s x refusal
     by Init is of k = absurd is
     by (Join other now lease) is of k = join_why member s other now lease refusal rules k
     by (Leave m) is of k =
         let k2 = subst (λ (n : ℕ). refusal_by_kind s (Leave n) ≡ Some refusal) is k in
-        subst (λ (n : ℕ). Why member s (Leave n) refusal) (sym is) (member_why member s (Leave member) any_kind (λ m. None) refusal tt (λ w found. refl) (λ w found bad. none_asked (Why member s (Leave member) refusal) refusal bad) k2)
+        subst (λ (n : ℕ). Why member s (Leave n) refusal) (sym is)
+        (member_why member s (Leave member) any_kind (λ m. None) refusal tt (λ w found. refl)
+        (λ w found bad. none_asked (Why member s (Leave member) refusal) refusal bad) k2)
     by (Renew m now) is of k =
         let k2 = subst (λ (n : ℕ). refusal_by_kind s (Renew n now) ≡ Some refusal) is.0 k in
-        subst (λ (n : ℕ). Why member s (Renew n now) refusal) (sym is.0) (member_why member s (Renew member now) (λ q. not (is_writer q)) (λ m. None) refusal tt
-        (λ w found. ap (λ (q : Kind). not (is_writer q)) (found_kind member w kind s.members found (of tt)) ∙ ap not is.1) (λ w found bad. none_asked (Why member s (Renew member now) refusal) refusal bad) k2)
+        subst (λ (n : ℕ). Why member s (Renew n now) refusal) (sym is.0)
+        (member_why member s (Renew member now) (λ q. not (is_writer q)) (λ m. None) refusal tt
+        (λ w found. ap (λ (q : Kind). not (is_writer q)) (found_kind member w kind s.members found (of tt)) ∙ ap not is.1)
+        (λ w found bad. none_asked (Why member s (Renew member now) refusal) refusal bad) k2)
     by (Advance m to) is of k =
         let k2 = subst (λ (n : ℕ). refusal_by_kind s (Advance n to) ≡ Some refusal) is.0 k in
-        subst (λ (n : ℕ). Why member s (Advance n to) refusal) (sym is.0) (member_why member s (Advance member to) is_reader (λ m. cond (ltb to m.since) (Some (refusals.Back m.since)) None) refusal tt
-        (λ w found. ap is_reader (found_kind member w kind s.members found (of tt)) ∙ is.1) (λ w found asked. since_why member to s w refusal found asked) k2)
+        subst (λ (n : ℕ). Why member s (Advance n to) refusal) (sym is.0)
+        (member_why member s (Advance member to) is_reader (λ m. cond (ltb to m.since) (Some (refusals.Back m.since)) None) refusal tt
+        (λ w found. ap is_reader (found_kind member w kind s.members found (of tt)) ∙ is.1)
+        (λ w found asked. since_why member to s w refusal found asked) k2)
     by (Expire now) is of k = absurd is
     by (Append m token expected upper parts rows weight) is of k = absurd is
     by (Merge m token left right merged) is of k = absurd is
 
 -- ---- at its place
 
-module _ (kind : Kind) (member : ℕ) (t new : Trying) (client : ℕ) (list : List Update) (start : Stored) (e : Entry) (others es : List Entry) (c : ChangesAt kind member t client list start e others es) where
+module _ (kind : Kind) (member : ℕ) (t new : Trying) (client : ℕ) (list : List Update) (start : Stored) (e : Entry)
+    (others es : List Entry) (c : ChangesAt kind member t client list start e others es) where
   abbrev Goes : Tried → Type 0
   Goes x = trying.Moves t (reply (replay_back start (others ++ es)) e) new x
 
@@ -126,7 +140,8 @@ module _ (kind : Kind) (member : ℕ) (t new : Trying) (client : ℕ) (list : Li
   before : LawfulBack start (others ++ es)
   before = lawful_older start e (others ++ es) c.at.lawful
 
-  refused_at : (refusal : Refusal) → Goes (tries.Refused refusal) → Newest t new start e (others ++ es) (λ s. standing_refusal s t.step ≡ Some refusal)
+  refused_at : (refusal : Refusal) → Goes (tries.Refused refusal) →
+      Newest t new start e (others ++ es) (λ s. standing_refusal s t.step ≡ Some refusal)
   refused_at refusal m = newest_refused start list client t new e others es c.at.sound c.at.call_is c.at.of_others c.at.stands before c.at.follows refusal m
 
   committed_at : (version : ℕ) → Goes (tries.Committed version) → Committing t new start e (others ++ es) version
@@ -134,25 +149,33 @@ module _ (kind : Kind) (member : ℕ) (t new : Trying) (client : ℕ) (list : Li
 
   -- the member has the kind as which it was joined
   kinds_at : (n : ℕ) (s : ShardState) → LastIs (replay_back start (others ++ es)) Own n s → IsOfMember t.step → HasKind kind member s
-  kinds_at n s last of = kind_back start (others ++ es) Own list c.at.stands before kind client member (subst (λ (own : List Answered). JoinedAs kind own Own member) (sym (mine_others start client others es c.at.of_others)) (c.joined of)) n s last
+  kinds_at n s last of = kind_back start (others ++ es) Own list c.at.stands before kind client member
+      (subst (λ (own : List Answered). JoinedAs kind own Own member) (sym (mine_others start client others es c.at.of_others))
+      (c.joined of)) n s last
 
-  committed_legal : (version : ℕ) → new.step ≡ t.step → new.calls ≡ trying.more t.calls → new.calls < most → Goes (tries.Committed version) → Legal (committed_outcome new.loader.cached new.step version)
-  committed_legal version same counted less m = subst (λ (x : Transition). Legal (committed_outcome new.loader.cached x version)) (sym same) (by t.step refl)
+  committed_legal : (version : ℕ) → new.step ≡ t.step → new.calls ≡ trying.more t.calls → new.calls < most →
+      Goes (tries.Committed version) → Legal (committed_outcome new.loader.cached new.step version)
+  committed_legal version same counted less m =
+      subst (λ (x : Transition). Legal (committed_outcome new.loader.cached x version)) (sym same) (by t.step refl)
     where
       k : Committing t new start e (others ++ es) version
       k = committed_at version m
 
       plain : Among (CommittedAs start Own t.step version) (places client new.calls (e ∷ (others ++ es)))
-      plain = among_now client t.calls new.calls e others es counted less c.at.own c.at.of_others (CommittedAs start Own t.step version) k.carries
+      plain = among_now client t.calls new.calls e others es counted less c.at.own c.at.of_others
+          (CommittedAs start Own t.step version) k.carries
 
-      joins : (other : Kind) (now lease : ℕ) → t.step ≡ Join other now lease → Legal (outcomes.Joined (last_member new.loader.cached) version (since_of new.loader.cached))
+      joins : (other : Kind) (now lease : ℕ) → t.step ≡ Join other now lease →
+          Legal (outcomes.Joined (last_member new.loader.cached) version (since_of new.loader.cached))
       joins other now lease is =
-          let made : Applies k.from (Join other now lease) k.carries.to = subst (λ (x : Transition). Applies k.from x k.carries.to) is k.applies in
+          let made : Applies k.from (Join other now lease) k.carries.to =
+          subst (λ (x : Transition). Applies k.from x k.carries.to) is k.applies in
           let next : k.carries.to.next_member ≡ k.from.next_member + 1 = ap (λ (s : ShardState). s.next_member) made.makes.effect in
           let last : last_member new.loader.cached ≡ k.carries.to.next_member - 1 = ap last_member k.cached in
           let joined : k.carries.to.next_member ≡ last_member new.loader.cached + 1 = omega arith in
           let since : k.carries.to.since ≡ since_of new.loader.cached = sym (ap since_of k.cached) in
-          among_now client t.calls new.calls e others es counted less c.at.own c.at.of_others (JoinedIn start Own t.step (last_member new.loader.cached) version (since_of new.loader.cached)) (k.carries, joined, since)
+          among_now client t.calls new.calls e others es counted less c.at.own c.at.of_others
+          (JoinedIn start Own t.step (last_member new.loader.cached) version (since_of new.loader.cached)) (k.carries, joined, since)
 
       by : (x : Transition) → t.step ≡ x → Legal (committed_outcome new.loader.cached x version)
       by (Join other now lease) is = joins other now lease is
@@ -173,16 +196,20 @@ module _ (kind : Kind) (member : ℕ) (t new : Trying) (client : ℕ) (list : Li
 
   -- what holds of the outcome that the newest state gives
   by_why : (P : Outcome → Type 0) (refusal : Refusal) (m : Goes (tries.Refused refusal)) →
-      ((s : ShardState) → LastIs (replay_back start (others ++ es)) Own s.number s → IsAnsweredScan Own (placed e (others ++ es)) → Joins t.step →
+      ((s : ShardState) → LastIs (replay_back start (others ++ es)) Own s.number s → IsAnsweredScan Own (placed e (others ++ es)) →
+      Joins t.step →
       length s.members ≡ 256 → P (full_outcome s.number)) →
-      ((s : ShardState) → LastIs (replay_back start (others ++ es)) Own s.number s → IsAnsweredScan Own (placed e (others ++ es)) → IsOfMember t.step →
+      ((s : ShardState) → LastIs (replay_back start (others ++ es)) Own s.number s → IsAnsweredScan Own (placed e (others ++ es)) →
+      IsOfMember t.step →
       member_of member s.members ≡ None → P (outcomes.Gone s.number)) →
-      ((s : ShardState) → LastIs (replay_back start (others ++ es)) Own s.number s → IsAnsweredScan Own (placed e (others ++ es)) → (since : ℕ) →
+      ((s : ShardState) → LastIs (replay_back start (others ++ es)) Own s.number s → IsAnsweredScan Own (placed e (others ++ es)) →
+      (since : ℕ) →
       Stands member (λ w. w.since ≡ since) s.members → AsksBefore since t.step → P (outcomes.Back since)) →
       P (refused_outcome new.loader.cached member t.step refusal)
   by_why P refusal m when_full when_gone when_back =
       let at = refused_at refusal m in
-      subst (λ (o : Option ShardState). P (refused_outcome o member t.step refusal)) (sym at.cached) (on at.state at.last at.scan (why_at refusal m))
+      subst (λ (o : Option ShardState). P (refused_outcome o member t.step refusal)) (sym at.cached)
+      (on at.state at.last at.scan (why_at refusal m))
     where
       on : (s : ShardState) → LastIs (replay_back start (others ++ es)) Own s.number s → IsAnsweredScan Own (placed e (others ++ es)) →
           Why member s t.step refusal → P (refused_outcome (Some s) member t.step refusal)
@@ -194,11 +221,13 @@ module _ (kind : Kind) (member : ℕ) (t new : Trying) (client : ℕ) (list : Li
       on s last scan (back since is stands before_it of) = subst (λ (x : Refusal). P (refused_outcome (Some s) member t.step x)) (sym is)
           (subst P (sym (member_form (Some s) member t.step (refusals.Back since) of)) (when_back s last scan since stands before_it))
 
-  scanned : new.calls ≡ trying.more t.calls → new.calls < most → (s : ShardState) → LastIs (replay_back start (others ++ es)) Own s.number s →
+  scanned : new.calls ≡ trying.more t.calls → new.calls < most → (s : ShardState) →
+      LastIs (replay_back start (others ++ es)) Own s.number s →
       IsAnsweredScan Own (placed e (others ++ es)) → (P : ℕ → ShardState → Type 0) → P s.number s →
       AtLastScan Own (AtLast start Own P) (places client new.calls (e ∷ (others ++ es)))
   scanned counted less s last scan P p =
-      scan_now client t.calls new.calls e others es counted less c.at.own c.at.of_others Own (AtLast start Own P) scan (s.number, s, last, p)
+      scan_now client t.calls new.calls e others es counted less c.at.own c.at.of_others Own (AtLast start Own P) scan
+      (s.number, s, last, p)
 
   refused_legal : (refusal : Refusal) → new.calls ≡ trying.more t.calls → new.calls < most → Goes (tries.Refused refusal) →
       Legal (refused_outcome new.loader.cached member t.step refusal)
@@ -209,10 +238,12 @@ module _ (kind : Kind) (member : ℕ) (t new : Trying) (client : ℕ) (list : Li
       (λ s last scan since stands before_it.
       (scanned counted less s last scan (λ n q. Stands member (λ w. w.since ≡ since) q.members) stands, before_it))
     where
-      by_number : (s : ShardState) → LastIs (replay_back start (others ++ es)) Own s.number s → IsAnsweredScan Own (placed e (others ++ es)) →
+      by_number : (s : ShardState) → LastIs (replay_back start (others ++ es)) Own s.number s →
+          IsAnsweredScan Own (placed e (others ++ es)) →
           length s.members ≡ 256 → (b : Bool) → eqb s.number most ≡ b → Legal (cond b outcomes.Spent (outcomes.Full s.number))
       by_number s last scan many true top = scanned counted less s last scan (λ n q. n ≡ most) (eqb-true s.number most top)
-      by_number s last scan many false below = scanned counted less s last scan (λ n q. (n ≡ s.number) × (length q.members ≡ 256)) (refl, many)
+      by_number s last scan many false below =
+          scanned counted less s last scan (λ n q. (n ≡ s.number) × (length q.members ≡ 256)) (refl, many)
 
   -- it ends with no other outcome than its own
   pub change_answered : (tried : Tried) → Goes tried → IsAnswerTo t.step (outcome new member tried)
@@ -237,14 +268,16 @@ module _ (kind : Kind) (member : ℕ) (t new : Trying) (client : ℕ) (list : Li
 
       by : (x : Tried) → Goes x → IsAnswerTo t.step (outcome new member x)
       by (tries.Committed version) m =
-          subst (λ (x : Transition). IsAnswerTo t.step (committed_outcome new.loader.cached x version)) (sym same_step) (in_as version t.step)
+          subst (λ (x : Transition). IsAnswerTo t.step (committed_outcome new.loader.cached x version)) (sym same_step)
+          (in_as version t.step)
       by tries.Begun m = tt
       by tries.Again m = tt
       by tries.Goes m = tt
       by tries.Fault m = tt
       by (tries.Refused refusal) m =
           subst (λ (x : Transition). IsAnswerTo t.step (refused_outcome new.loader.cached member x refusal)) (sym same_step)
-          (by_why (IsAnswerTo t.step) refusal m (λ s last scan joins many. full_as s.number (eqb s.number most) joins) (λ s last scan of none. of)
+          (by_why (IsAnswerTo t.step) refusal m (λ s last scan joins many. full_as s.number (eqb s.number most) joins)
+          (λ s last scan of none. of)
           (λ s last scan since stands before_it. before_it))
       by tries.Spent m = tt
       by (tries.Damaged damage) m =
@@ -267,10 +300,12 @@ module _ (kind : Kind) (member : ℕ) (t new : Trying) (client : ℕ) (list : Li
       by tries.Goes m = tt
       by tries.Fault m = tt
       by (tries.Refused refusal) m =
-          subst (λ (x : Transition). Legal (refused_outcome new.loader.cached member x refusal)) (sym same_step) (refused_legal refusal counted less m)
+          subst (λ (x : Transition). Legal (refused_outcome new.loader.cached member x refusal)) (sym same_step)
+          (refused_legal refusal counted less m)
       by tries.Spent m =
           let at = newest_spent start list client t new e others es c.at.sound c.at.call_is c.at.of_others c.at.stands before c.at.follows m in
-          scan_now client t.calls new.calls e others es counted less c.at.own c.at.of_others Own (AtLast start Own (λ n s. n ≡ most)) at.scan (at.state.number, at.state, at.last, at.so.1)
+          scan_now client t.calls new.calls e others es counted less c.at.own c.at.of_others Own
+          (AtLast start Own (λ n s. n ≡ most)) at.scan (at.state.number, at.state, at.last, at.so.1)
       by (tries.Damaged damage) m = never_damaged start list client t new e others es c.at.sound c.at.call_is c.at.of_others c.at.stands before c.at.follows damage m
 
 -- ---- what its call commits
@@ -280,11 +315,14 @@ module _ (member : ℕ) (t new : Trying) (r : Reply) (sound : trying.IsSound t) 
   Did o = ChangeEffect t.loader.shard t.step (trying.call_of t) r o
 
   committed_effect : (version : ℕ) → new.step ≡ t.step → StepIn t r new → Did (committed_outcome new.loader.cached new.step version)
-  committed_effect version same k = subst (λ (x : Transition). Did (committed_outcome new.loader.cached x version)) (sym same) (by t.step refl)
+  committed_effect version same k =
+      subst (λ (x : Transition). Did (committed_outcome new.loader.cached x version)) (sym same) (by t.step refl)
     where
-      joins : (other : Kind) (now lease : ℕ) → t.step ≡ Join other now lease → Did (outcomes.Joined (last_member new.loader.cached) version (since_of new.loader.cached))
+      joins : (other : Kind) (now lease : ℕ) → t.step ≡ Join other now lease →
+          Did (outcomes.Joined (last_member new.loader.cached) version (since_of new.loader.cached))
       joins other now lease is =
-          let made : Applies k.from (Join other now lease) k.commits.to = subst (λ (x : Transition). Applies k.from x k.commits.to) is k.applies in
+          let made : Applies k.from (Join other now lease) k.commits.to =
+          subst (λ (x : Transition). Applies k.from x k.commits.to) is k.applies in
           let next : k.commits.to.next_member ≡ k.from.next_member + 1 = ap (λ (s : ShardState). s.next_member) made.makes.effect in
           let last : last_member new.loader.cached ≡ k.commits.to.next_member - 1 = ap last_member k.cached in
           let joined : k.commits.to.next_member ≡ last_member new.loader.cached + 1 = omega arith in

@@ -1,7 +1,6 @@
 -- The outcome of a change, by its transition and by its refusal.
 use Rattle.std.proofs.Common.{◌≡◌, ℕ, Option, inl, inr, refl, eqb}
 use Rattle.std.proofs.lemmas.Bool.{eqb-true}
-use Rattle.state_core.specs.declared.kinds.Kind.{Kind}
 use Rattle.state_core.specs.declared.refusals.Refusal.{Refusal}
 use Rattle.state_core.specs.declared.refusals.Refusal.TheVariants as refusals
 use Rattle.state_core.specs.declared.transitions.Transition.{Transition}
@@ -38,7 +37,8 @@ member_form newest member (Append m token expected upper parts rows weight) refu
 member_form newest member (Merge m token left right merged) refusal of = refl
 
 pub committed_as : (P : Outcome → Type 0) (newest : Option ShardState) (step : Transition) (version : ℕ) →
-    P (outcomes.Joined (last_member newest) version (since_of newest)) → P (outcomes.Committed version) → P (committed_outcome newest step version)
+    P (outcomes.Joined (last_member newest) version (since_of newest)) → P (outcomes.Committed version) →
+    P (committed_outcome newest step version)
 committed_as P newest (Join kind now lease) version joined in_it = joined
 committed_as P newest Init version joined in_it = in_it
 committed_as P newest (Leave m) version joined in_it = in_it
@@ -57,7 +57,8 @@ pub absent_as : (P : Outcome → Type 0) (newest : Option ShardState) (member : 
     P (outcomes.Strange (number_of newest)) → P (absent_outcome newest member)
 absent_as P newest member gone strange = elim (bool_cases (is_gone member newest)) [ inl e ↦ rw e gone | inr e ↦ rw e strange ]
 
-pub join_as : (P : Outcome → Type 0) (newest : Option ShardState) (refusal : Refusal) → P outcomes.Spent → P (outcomes.Full (number_of newest)) →
+pub join_as : (P : Outcome → Type 0) (newest : Option ShardState) (refusal : Refusal) → P outcomes.Spent →
+    P (outcomes.Full (number_of newest)) →
     P (outcomes.Strange (number_of newest)) → P (join_outcome newest refusal)
 join_as P newest (refusals.MembersFull count) last many strange = full_as P (number_of newest) (λ e. last) many
 join_as P newest (refusals.Back since) last many strange = strange
@@ -71,7 +72,8 @@ join_as P newest (refusals.Heavy weight) last many strange = strange
 join_as P newest refusals.NotPresent last many strange = strange
 join_as P newest refusals.NotDue last many strange = strange
 
-pub member_as : (P : Outcome → Type 0) (newest : Option ShardState) (member : ℕ) (refusal : Refusal) → P (outcomes.Gone (number_of newest)) →
+pub member_as : (P : Outcome → Type 0) (newest : Option ShardState) (member : ℕ) (refusal : Refusal) →
+    P (outcomes.Gone (number_of newest)) →
     ((since : ℕ) → P (outcomes.Back since)) → P (outcomes.Strange (number_of newest)) → P (member_outcome newest member refusal)
 member_as P newest member refusals.NoMember gone back strange = absent_as P newest member gone strange
 member_as P newest member (refusals.Back since) gone back strange = back since
@@ -86,7 +88,8 @@ member_as P newest member refusals.NotPresent gone back strange = strange
 member_as P newest member refusals.NotDue gone back strange = strange
 
 -- whatever is refused, and why
-pub refused_as : (P : Outcome → Type 0) (newest : Option ShardState) (member : ℕ) (step : Transition) (refusal : Refusal) → P outcomes.Spent →
+pub refused_as : (P : Outcome → Type 0) (newest : Option ShardState) (member : ℕ) (step : Transition) (refusal : Refusal) →
+    P outcomes.Spent →
     ((version : ℕ) → P (outcomes.Full version)) → ((version : ℕ) → P (outcomes.Gone version)) → ((since : ℕ) → P (outcomes.Back since)) →
     ((version : ℕ) → P (outcomes.Strange version)) → P (refused_outcome newest member step refusal)
 refused_as P newest member step refusal last full gone back strange = by step

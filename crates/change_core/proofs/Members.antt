@@ -38,19 +38,24 @@ next_count : (n m : ℕ) → m ≡ more n → m < most → m ≡ suc n
 next_count n m h less = omega arith
 
 -- the newest of its entries is the one that was made last
-pub places_now : (client n m : ℕ) (e : Entry) (others es : List Entry) → m ≡ more n → m < most → e.client ≡ client → OfOthers client others →
+pub places_now : (client n m : ℕ) (e : Entry) (others es : List Entry) → m ≡ more n → m < most → e.client ≡ client →
+    OfOthers client others →
     places client m (e ∷ (others ++ es)) ≡ placed e (others ++ es) ∷ places client n es
 places_now client n m e others es is less own of =
     ap (λ (k : ℕ). places client k (e ∷ (others ++ es))) (next_count n m is less) ∙ places_gained client n e others es own of
 
 -- what holds at the last entry holds among the command's
-pub among_now : (client n m : ℕ) (e : Entry) (others es : List Entry) → m ≡ more n → m < most → e.client ≡ client → OfOthers client others → (P : Placed → Type 0) → P (placed e (others ++ es)) → Among P (places client m (e ∷ (others ++ es)))
+pub among_now : (client n m : ℕ) (e : Entry) (others es : List Entry) → m ≡ more n → m < most → e.client ≡ client →
+    OfOthers client others → (P : Placed → Type 0) → P (placed e (others ++ es)) → Among P (places client m (e ∷ (others ++ es)))
 among_now client n m e others es is less own of P p = subst (Among P) (sym (places_now client n m e others es is less own of)) (inl p)
 
 -- and at the last answered Scan, where it is one
-pub scan_now : (client n m : ℕ) (e : Entry) (others es : List Entry) → m ≡ more n → m < most → e.client ≡ client → OfOthers client others → (shard : ShardId) (P : Placed → Type 0) → IsAnsweredScan shard (placed e (others ++ es)) → P (placed e (others ++ es)) →
+pub scan_now : (client n m : ℕ) (e : Entry) (others es : List Entry) → m ≡ more n → m < most → e.client ≡ client →
+    OfOthers client others → (shard : ShardId) (P : Placed → Type 0) → IsAnsweredScan shard (placed e (others ++ es)) →
+    P (placed e (others ++ es)) →
     AtLastScan shard P (places client m (e ∷ (others ++ es)))
-scan_now client n m e others es is less own of shard P scan p = subst (AtLastScan shard P) (sym (places_now client n m e others es is less own of)) (inl (scan, p))
+scan_now client n m e others es is less own of shard P scan p =
+    subst (AtLastScan shard P) (sym (places_now client n m e others es is less own of)) (inl (scan, p))
 
 -- ---- members
 
@@ -102,7 +107,8 @@ module _ (start : Stored) (es : List Entry) where
 
   -- where a member that a client joined stands in the last state, it has the kind of its Join
   pub kind_back : (shard : ShardId) (list : List Update) → StandsFor start shard list → LawfulBack start es → (kind : Kind) (c member : ℕ) →
-      JoinedAs kind (mine_back start es c) shard member → (number : ℕ) (last : ShardState) → LastIs (replay_back start es) shard number last → HasKind kind member last
+      JoinedAs kind (mine_back start es c) shard member → (number : ℕ) (last : ShardState) →
+      LastIs (replay_back start es) shard number last → HasKind kind member last
   kind_back shard list st l kind c member joined number last is =
       kind_law shard list past st (lawful_forth past (subst (LawfulBack start) (sym back_is) l)) kind c member
       (subst (λ (own : List Answered). JoinedAs kind own shard member) (sym (own_is c)) joined) number last

@@ -54,7 +54,8 @@ module _ (client : ℕ) (r : Reader) (list : List Update) (start : Stored) (e : 
   at_member : (member : ℕ) → r.member ≡ Some member → (P : ℕ → Type 0) → P member → IsSomeAnd r.member P
   at_member member is P p = subst (λ (o : Option ℕ). IsSomeAnd o P) (sym is) p
 
-  pub open_means : (member now lease : ℕ) (v : Reader) (o : Outcome) → IsAnswerTo (Join AsReader now lease) o → Means member (Join AsReader now lease) o →
+  pub open_means : (member now lease : ℕ) (v : Reader) (o : Outcome) → IsAnswerTo (Join AsReader now lease) o →
+      Means member (Join AsReader now lease) o →
       Legal (asks.OpenReader (shard_of r) now lease) (change_poll v (asks.OpenReader (shard_of r) now lease) o)
   open_means member now lease v outcomes.Going fit legal = tt
   open_means member now lease v outcomes.Fault fit legal = tt
@@ -98,7 +99,8 @@ module _ (client : ℕ) (r : Reader) (list : List Update) (start : Stored) (e : 
   renew_means member now is v (outcomes.Back since) fit legal = absurd fit
   renew_means member now is v (outcomes.Strange version) fit legal = absurd fit
 
-  pub close_means : (member : ℕ) → r.member ≡ Some member → (v : Reader) (o : Outcome) → IsAnswerTo (Leave member) o → Means member (Leave member) o →
+  pub close_means : (member : ℕ) → r.member ≡ Some member → (v : Reader) (o : Outcome) → IsAnswerTo (Leave member) o →
+      Means member (Leave member) o →
       Legal asks.CloseReader (change_poll v asks.CloseReader o)
   close_means member is v outcomes.Going fit legal = tt
   close_means member is v outcomes.Fault fit legal = tt
@@ -115,8 +117,10 @@ module _ (client : ℕ) (r : Reader) (list : List Update) (start : Stored) (e : 
 
 -- ---- at its place
 
-module _ (client : ℕ) (r : Reader) (list : List Update) (start : Stored) (e : Entry) (others es : List Entry) (sound : IsSound r) (f : Follows client r start es) (own : e.client ≡ client)
-    (call : e.call ≡ trying.call_of r.trying) (of : OfOthers client others) (st : StandsFor start (shard_of r) list) (lawful : LawfulBack start (e ∷ (others ++ es)))
+module _ (client : ℕ) (r : Reader) (list : List Update) (start : Stored) (e : Entry) (others es : List Entry) (sound : IsSound r)
+    (f : Follows client r start es) (own : e.client ≡ client)
+    (call : e.call ≡ trying.call_of r.trying) (of : OfOthers client others) (st : StandsFor start (shard_of r) list)
+    (lawful : LawfulBack start (e ∷ (others ++ es)))
     (t : Trying) (tried : Tried) (moves : trying.Moves r.trying (reply (replay_back start (others ++ es)) e) t tried) where
   -- the machine with what it tries
   abbrev now : Reader
@@ -135,12 +139,15 @@ module _ (client : ℕ) (r : Reader) (list : List Update) (start : Stored) (e : 
       at = changed_at client r list start e others es sound f own call of st lawful asked h
 
       fits : (step : Transition) → r.trying.step ≡ step → IsAnswerTo step Came
-      fits step is = subst (λ (x : Transition). IsAnswerTo x Came) is (change_answered AsReader (own_member r) r.trying t client list start e others es at tried moves)
+      fits step is = subst (λ (x : Transition). IsAnswerTo x Came) is
+          (change_answered AsReader (own_member r) r.trying t client list start e others es at tried moves)
 
-      means : (member : ℕ) (step : Transition) → own_member r ≡ member → r.trying.step ≡ step → Means client r list start e others es t.calls member step Came
+      means : (member : ℕ) (step : Transition) → own_member r ≡ member → r.trying.step ≡ step →
+          Means client r list start e others es t.calls member step Came
       means member step is step_is less =
           subst (λ (n : ℕ). LegalChange start (shard_of r) n step Came (places client t.calls (e ∷ (others ++ es)))) is
-          (subst (λ (x : Transition). LegalChange start (shard_of r) (own_member r) x Came (places client t.calls (e ∷ (others ++ es)))) step_is
+          (subst (λ (x : Transition). LegalChange start (shard_of r) (own_member r) x Came
+          (places client t.calls (e ∷ (others ++ es)))) step_is
           (legal_of AsReader (own_member r) r.trying t client list start e others es at tried moves less))
 
       named : (member : ℕ) → r.member ≡ Some member → own_member r ≡ member
@@ -148,7 +155,8 @@ module _ (client : ℕ) (r : Reader) (list : List Update) (start : Stored) (e : 
 
       by : Changed r asked → LegalAs asked
       by (opens shard start_at lease is same step) = subst LegalAs (sym (is ∙ ap (λ (d : ShardId). asks.OpenReader d start_at lease) same))
-          (open_means client r list start e others es t.calls (own_member r) start_at lease now Came (fits (Join AsReader start_at lease) step)
+          (open_means client r list start e others es t.calls (own_member r) start_at lease now Came
+          (fits (Join AsReader start_at lease) step)
           (means (own_member r) (Join AsReader start_at lease) refl step))
       by (advances to member is own_is step) = subst LegalAs (sym is)
           (advance_means client r list start e others es t.calls member to own_is now Came (fits (Advance member to) step)
@@ -161,13 +169,16 @@ module _ (client : ℕ) (r : Reader) (list : List Update) (start : Stored) (e : 
           (means member (Leave member) (named member own_is) step))
 
 -- each poll of a command that changes the member is legal
-pub change_legal : (client : ℕ) (r new : Reader) (poll : Poll ReadAnswer) (list : List Update) (start : Stored) (e : Entry) (others es : List Entry) → IsSound r → Follows client r start es → e.client ≡ client →
-    call_of r ≡ Some e.call → OfOthers client others → StandsFor start (shard_of r) list → LawfulBack start (e ∷ (others ++ es)) → question r ≡ None →
+pub change_legal : (client : ℕ) (r new : Reader) (poll : Poll ReadAnswer) (list : List Update) (start : Stored) (e : Entry)
+    (others es : List Entry) → IsSound r → Follows client r start es → e.client ≡ client →
+    call_of r ≡ Some e.call → OfOthers client others → StandsFor start (shard_of r) list → LawfulBack start (e ∷ (others ++ es)) →
+    question r ≡ None →
     MovesAfterTry r (reply (replay_back start (others ++ es)) e) new poll → LegalPoll client r new poll start (e ∷ (others ++ es)) list
 change_legal client r new poll list start e others es sound f own call of st lawful none (t, tried, asked, moves, is, told, now) =
     let call2 : Some (trying.call_of r.trying) ≡ Some e.call = subst (λ (q : Option Question). call_by r q ≡ Some e.call) none call in
     let made : e.call ≡ trying.call_of r.trying = cc in
-    let asks : AsksAs (shard_of r) r.member r.trying.step r.listen asked = subst (λ (o : Option Asked). IfSome o (λ a. AsksAs (shard_of r) r.member r.trying.step r.listen a)) is sound.asked in
+    let asks : AsksAs (shard_of r) r.member r.trying.step r.listen asked =
+    subst (λ (o : Option Asked). IfSome o (λ a. AsksAs (shard_of r) r.member r.trying.step r.listen a)) is sound.asked in
     let none2 : question_of (Some asked) r.listen ≡ None = subst (λ (o : Option Asked). question_of o r.listen ≡ None) is none in
     let counts : new.trying.calls ≡ t.calls = ap (λ (x : Reader). x.trying.calls) now ∙ after_calls (record r { trying = t }) poll in
     legal_poll client r list start e others es t.calls new asked poll counts is

@@ -28,16 +28,21 @@ use Rattle.read_client.proofs.LegalPolls.{is_there, some_is}
 
 -- what a command that asks no question changes
 pub data Changed (r : Reader) (asked : Asked) : Type 0 where
-  opens : (shard : ShardId) (now lease : ℕ) → asked ≡ asks.OpenReader shard now lease → shard ≡ shard_of r → r.trying.step ≡ Join AsReader now lease → Changed r asked
+  opens : (shard : ShardId) (now lease : ℕ) → asked ≡ asks.OpenReader shard now lease → shard ≡ shard_of r →
+      r.trying.step ≡ Join AsReader now lease → Changed r asked
   advances : (to member : ℕ) → asked ≡ asks.Advance to → r.member ≡ Some member → r.trying.step ≡ Advance member to → Changed r asked
   renews : (now member : ℕ) → asked ≡ asks.RenewReader now → r.member ≡ Some member → r.trying.step ≡ Renew member now → Changed r asked
   closes : (member : ℕ) → asked ≡ asks.CloseReader → r.member ≡ Some member → r.trying.step ≡ Leave member → Changed r asked
 
-pub changed : (r : Reader) (asked : Asked) → question_of (Some asked) r.listen ≡ None → AsksAs (shard_of r) r.member r.trying.step r.listen asked → Changed r asked
+pub changed : (r : Reader) (asked : Asked) → question_of (Some asked) r.listen ≡ None →
+    AsksAs (shard_of r) r.member r.trying.step r.listen asked → Changed r asked
 changed r (asks.OpenReader shard now lease) none h = opens shard now lease refl h.0 h.2
-changed r (asks.Advance to) none h = let (member, is, step) = some_is (λ member. r.trying.step ≡ Advance member to) r.member h in advances to member refl is step
-changed r (asks.RenewReader now) none h = let (member, is, step) = some_is (λ member. r.trying.step ≡ Renew member now) r.member h in renews now member refl is step
-changed r asks.CloseReader none h = let (member, is, step) = some_is (λ member. r.trying.step ≡ Leave member) r.member h in closes member refl is step
+changed r (asks.Advance to) none h = let (member, is, step) =
+    some_is (λ member. r.trying.step ≡ Advance member to) r.member h in advances to member refl is step
+changed r (asks.RenewReader now) none h = let (member, is, step) =
+    some_is (λ member. r.trying.step ≡ Renew member now) r.member h in renews now member refl is step
+changed r asks.CloseReader none h = let (member, is, step) =
+    some_is (λ member. r.trying.step ≡ Leave member) r.member h in closes member refl is step
 changed r (asks.Snapshot t) none h = absurd (let bad : Some (questions.Content t) ≡ None = none in cc)
 changed r (asks.Listen as_of) none h = absurd (
     let bad : Some (questions.Step (after as_of)) ≡ None = sym (ap step_question h.1) ∙ none in cc)
@@ -83,7 +88,8 @@ module _ (client : ℕ) (r : Reader) (list : List Update) (start : Stored) (e : 
   }
 
   -- one of its own member
-  of_member : (member : ℕ) (step : Transition) → r.member ≡ Some member → r.trying.step ≡ step → IsChange AsReader member step → Changes (own_member r)
+  of_member : (member : ℕ) (step : Transition) → r.member ≡ Some member → r.trying.step ≡ step → IsChange AsReader member step →
+      Changes (own_member r)
   of_member member step is step_is change =
       let same : own_member r ≡ member = ap (λ (o : Option ℕ). unwrap_or o 0) is in
       subst Changes (sym same) (changes member (subst (IsChange AsReader member) (sym step_is) change)

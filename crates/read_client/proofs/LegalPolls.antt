@@ -1,21 +1,15 @@
 -- What a poll of a reader comes to is legal, taken apart by what was asked. Entries go newest first.
-use Rattle.std.proofs.Common.{◌≡◌, ℕ, ◌<◌, Bool, true, false, cond, eqb, [], Option, Some, None, List, ◌∷◌, ◌++◌, inl, inr, refl, sym, ap, subst, ◌∙◌}
+use Rattle.std.proofs.Common.{◌≡◌, ℕ, ◌<◌, Bool, true, false, cond, Option, Some, None, List, ◌∷◌, ◌++◌, inl, refl, sym, ap, subst, ◌∙◌}
 use Rattle.std.specs.Prelude.{⊤, IfSome, IsSome, IsSomeAnd, is_none, unwrap_or}
-use Rattle.std.specs.List.{AllByRecursion}
-use Rattle.std.proofs.lemmas.Bool.{eqb-true}
 use Rattle.update_core.specs.declared.updates.Update.{Update}
 use Rattle.store_core.specs.declared.entries.Entry.{Entry}
 use Rattle.store_core.specs.Stores.{Stored}
 use Rattle.store_core.specs.Ports.{Answered, OfOthers}
 use Rattle.store_core.specs.Newest.{mine_back, replay_back}
-use Rattle.state_core.specs.declared.kinds.Kind.{Kind}
 use Rattle.state_core.specs.declared.kinds.Kind.TheVariants.{Reader as AsReader}
-use Rattle.state_core.specs.declared.members.Member.{Member}
-use Rattle.state_core.specs.Lists.{Among}
 use Rattle.state_core.specs.Refusals.{member_of}
 use Rattle.state_core.specs.States.{ShardState}
 use Rattle.state_core.specs.VersionReading.{most}
-use Rattle.state_core.proofs.ListLemmas.{bool_cases}
 use Rattle.history_core.specs.declared.asked.Asked.{Asked}
 use Rattle.history_core.specs.declared.read_answers.ReadAnswer.{ReadAnswer}
 use Rattle.history_core.specs.declared.read_answers.ReadAnswer.TheVariants as answers
@@ -30,6 +24,7 @@ use Rattle.history_core.proofs.MemberStands.{HasKind}
 use Rattle.load_core.specs.declared.polls.Poll.{Poll}
 use Rattle.load_core.specs.declared.polls.Poll.TheVariants as polls
 use Rattle.load_core.specs.Trying as trying
+use Rattle.change_core.proofs.Members.{kind_back, places_now}
 use Rattle.read_client.specs.declared.readers.Reader.{Reader}
 use Rattle.read_client.specs.Following.{Follows}
 use Rattle.machine_core.specs.Machines as machines
@@ -37,7 +32,6 @@ use Rattle.read_client.specs.Machining.{command_in, kept, machine}
 use Rattle.read_client.specs.Polling.{ReadsParts}
 use Rattle.change_core.specs.Changes.{is_gone, number_of}
 use Rattle.read_client.specs.Reading.{after_poll, expired, own_member, shard_of}
-use Rattle.read_client.proofs.Places.{kind_back, places_now}
 
 -- the value that is there
 pub some_is : {A : Type 0} (P : A → Type 0) (o : Option A) → IsSomeAnd o P → (x : A) × (o ≡ Some x) × P x
@@ -56,18 +50,6 @@ after_calls r polls.Fault = refl
 after_calls r (polls.Damaged damage) = refl
 after_calls r polls.Spent = refl
 after_calls r (polls.Done answer) = refl
-
--- a member that is found has the kind that each of its number has
-pub found_kind : (n : ℕ) (w : Member) (kind : Kind) (ms : List Member) → member_of n ms ≡ Some w →
-    AllByRecursion (λ m. m.number ≡ n → m.kind ≡ kind) ms → w.kind ≡ kind
-found_kind n w kind [] h all = absurd (cc)
-found_kind n w kind (m ∷ ms) h all = elim (bool_cases (eqb m.number n)) [
-  | inl e ↦
-      let h2 : Some m ≡ Some w = rw e at h in
-      let is : m ≡ w = cc in
-      subst (λ (x : Member). x.kind ≡ kind) is (all.0 (eqb-true m.number n e))
-  | inr e ↦ found_kind n w kind ms (rw e at h) all.1
-]
 
 -- what a poll of a reader comes to is legal
 abbrev pub LegalPoll : ℕ → Reader → Reader → Poll ReadAnswer → Stored → List Entry → List Update → Type 0
@@ -96,11 +78,7 @@ module _ (client : ℕ) (r : Reader) (list : List Update) (start : Stored) (e : 
   legal_poll new asked polls.More c a h = tt
   legal_poll new asked polls.Fault c a h = tt
 
-  -- what holds at the last entry holds among the command's
-  pub among_now : calls ≡ trying.more r.trying.calls → calls < most → e.client ≡ client → OfOthers client others → (P : Placed → Type 0) → P (placed e (others ++ es)) → Among P (places client calls all)
-  among_now is less own of P p = subst (Among P) (sym (places_now client r.trying.calls calls e others es is less own of)) (inl p)
-
-  -- and at the last answered Scan, where it is one
+  -- what holds at the last entry holds at the last answered Scan, where it is one
   pub scan_now : calls ≡ trying.more r.trying.calls → calls < most → e.client ≡ client → OfOthers client others → (P : Placed → Type 0) → IsAnsweredScan (shard_of r) (placed e (others ++ es)) → P (placed e (others ++ es)) →
       AtLastScan (shard_of r) P (places client calls all)
   scan_now is less own of P scan p = subst (AtLastScan (shard_of r) P) (sym (places_now client r.trying.calls calls e others es is less own of)) (inl (scan, p))

@@ -1,5 +1,5 @@
 -- Where a reader's calls stand in a history, and the laws of histories that its answers rest on. Entries go newest first.
-use Rattle.std.proofs.Common.{◌≡◌, ℕ, zero, suc, ◌+◌, ◌<◌, true, false, Option, Some, None, List, [], ◌∷◌, ◌++◌, inl, inr, sym, ap, subst, ◌∙◌, arith, eqb}
+use Rattle.std.proofs.Common.{◌≡◌, ℕ, zero, suc, ◌+◌, ◌<◌, true, false, Option, None, List, [], ◌∷◌, ◌++◌, inl, inr, sym, ap, subst, ◌∙◌, arith, eqb}
 use Rattle.std.specs.Prelude.{reverse}
 use Rattle.std.specs.List.{AllByRecursion}
 use Rattle.std.proofs.lemmas.Bool.{eq-eqb, eqb-true}
@@ -13,13 +13,11 @@ use Rattle.store_core.specs.declared.part_keys.PartKey.{PartKey}
 use Rattle.store_core.specs.declared.entries.Entry.{Entry}
 use Rattle.store_core.specs.Stores.{Stored}
 use Rattle.store_core.specs.Histories.{History, reply, store_after}
-use Rattle.store_core.specs.Ports.{Answered, OfOthers, with_entries}
+use Rattle.store_core.specs.Ports.{Answered, with_entries}
 use Rattle.store_core.specs.Newest.{mine_back, replay_back}
 use Rattle.store_core.proofs.NewestLaws.{mine-newest, replay-newest}
-use Rattle.state_core.specs.declared.members.Member.{Member}
 use Rattle.state_core.specs.declared.kinds.Kind.{Kind}
 use Rattle.state_core.specs.Lists.{Among}
-use Rattle.state_core.specs.Refusals.{member_of}
 use Rattle.state_core.specs.States.{Names, ShardState, is_writer, keys_of}
 use Rattle.state_core.specs.Steps.{Stands}
 use Rattle.state_core.specs.VersionReading.{most}
@@ -34,12 +32,10 @@ use Rattle.history_core.specs.Placing.{AtLastScan, GotSinceScan, IsAnsweredScan,
 use Rattle.history_core.specs.Questions.{begun_by, ending_past}
 use Rattle.history_core.specs.Stands.{StandsFor, accepted}
 use Rattle.history_core.specs.StretchLaws.{NoCasOf}
-use Rattle.history_core.proofs.Gaining.{places_gained}
 use Rattle.history_core.proofs.GotRows.{rows_law, step_law}
 use Rattle.history_core.proofs.Holding.{missing_law}
 use Rattle.history_core.proofs.LawfulLaws.{store_both, turned}
-use Rattle.history_core.proofs.MemberStands.{HasKind, is_join}
-use Rattle.history_core.proofs.OwnMembers.{kind_law}
+use Rattle.history_core.proofs.MemberStands.{is_join}
 use Rattle.history_core.proofs.StepStands.{rows_stand_law}
 use Rattle.history_core.proofs.Walking.{all_back}
 use Rattle.load_core.specs.Trying.{more}
@@ -52,12 +48,6 @@ use Rattle.read_client.proofs.Stretch.{replay_behind}
 -- a count below its last number counts one call more
 pub next_count : (n m : ℕ) → m ≡ more n → m < most → m ≡ suc n
 next_count n m h less = omega arith
-
--- the newest of its entries is the one that was made last
-pub places_now : (client n m : ℕ) (e : Entry) (others es : List Entry) → m ≡ more n → m < most → e.client ≡ client → OfOthers client others →
-    places client m (e ∷ (others ++ es)) ≡ placed e (others ++ es) ∷ places client n es
-places_now client n m e others es is less own of =
-    ap (λ (k : ℕ). places client k (e ∷ (others ++ es))) (next_count n m is less) ∙ places_gained client n e others es own of
 
 is_mine : (client : ℕ) (e : Entry) → e.client ≡ client → eqb e.client client ≡ true
 is_mine client e eq = eq-eqb e.client client eq
@@ -105,28 +95,6 @@ got_since client (suc n) start shard k b (x ∷ xs) scan before quiet few got = 
 
 -- ---- the member that is looked for
 
--- the member that is found stands, with its number
-pub found_stands : (n : ℕ) (w : Member) (P : Member → Type 0) (ms : List Member) → member_of n ms ≡ Some w → P w → Stands n P ms
-found_stands n w P [] h p = absurd (cc)
-found_stands n w P (m ∷ ms) h p = elim (bool_cases (eqb m.number n)) [
-  | inl e ↦
-      let h2 : Some m ≡ Some w = rw e at h in
-      let is : w ≡ m = cc in
-      inl (eqb-true m.number n e, subst P is p)
-  | inr e ↦ inr (found_stands n w P ms (rw e at h) p)
-]
-
--- where none is found, none stands
-pub none_stands : (n : ℕ) (P : Member → Type 0) (ms : List Member) → member_of n ms ≡ None → ¬ Stands n P ms
-none_stands n P [] h s = s
-none_stands n P (m ∷ ms) h s = elim (bool_cases (eqb m.number n)) [
-  | inl e ↦ let h2 : Some m ≡ None = rw e at h in absurd (cc)
-  | inr e ↦ elim s [
-    | inl p ↦ absurd (let t : eqb m.number n ≡ true = eq-eqb m.number n p.0 in let bad : true ≡ false = sym t ∙ e in cc)
-    | inr p ↦ none_stands n P ms (rw e at h) p
-  ]
-]
-
 -- ---- laws of histories, with the newest entry first
 
 module _ (start : Stored) (es : List Entry) where
@@ -141,14 +109,6 @@ module _ (start : Stored) (es : List Entry) where
 
   own_is : (c : ℕ) → own_of past c ≡ mine_back start es c
   own_is c = mine-newest past c ∙ ap (λ (q : List Entry). mine_back start q c) back_is
-
-  -- where a member that a client joined stands in the last state, it has the kind of its Join
-  pub kind_back : (shard : ShardId) (list : List Update) → StandsFor start shard list → LawfulBack start es → (kind : Kind) (c member : ℕ) →
-      JoinedAs kind (mine_back start es c) shard member → (number : ℕ) (last : ShardState) → LastIs (replay_back start es) shard number last → HasKind kind member last
-  kind_back shard list st l kind c member joined number last is =
-      kind_law shard list past st (lawful_forth past (subst (LawfulBack start) (sym back_is) l)) kind c member
-      (subst (λ (own : List Answered). JoinedAs kind own shard member) (sym (own_is c)) joined) number last
-      (subst (λ (q : Stored). LastIs q shard number last) (sym store_is) is)
 
 module _ (start : Stored) (es later : List Entry) where
   abbrev after : List Entry

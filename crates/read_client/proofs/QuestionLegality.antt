@@ -20,6 +20,7 @@ use Rattle.history_core.specs.Laws.{LastIs}
 use Rattle.history_core.specs.Legal.{AtLast, LegalOfReader, LegalReadBack, LegalStep, PartsGot, Reads, ReadsAt, collection_in, snapshot_keys, step_keys}
 use Rattle.history_core.specs.Placing.{AtLastScan, GotSinceScan, Placed, places, store_at}
 use Rattle.history_core.specs.Stands.{accepted}
+use Rattle.change_core.proofs.Members.{found_stands}
 use Rattle.read_client.specs.declared.questions.Question.{Question}
 use Rattle.read_client.specs.declared.questions.Question.TheVariants as questions
 use Rattle.read_client.specs.declared.readers.Reader.{Reader}
@@ -28,7 +29,6 @@ use Rattle.read_client.specs.Machining.{command_in, kept}
 use Rattle.read_client.specs.Polling.{ReadsParts, RowGot}
 use Rattle.read_client.specs.Reading.{AsksAs, rows_answer, shard_of, upper_of}
 use Rattle.read_client.proofs.LegalPolls.{is_there}
-use Rattle.read_client.proofs.Places.{found_stands}
 
 module _ (client : ℕ) (r : Reader) (list : List Update) (start : Stored) (e : Entry) (others es : List Entry) (calls member : ℕ) (is : r.member ≡ Some member) where
   -- the command's entries

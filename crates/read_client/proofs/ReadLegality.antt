@@ -54,6 +54,7 @@ use Rattle.load_core.specs.Trying as trying
 use Rattle.load_core.specs.PartsFollowing.{BringsBytes, IsGotSoFar}
 use Rattle.load_core.proofs.GettingFollows.{all_got, got_later, still_got}
 use Rattle.load_core.proofs.Scanned.{newest_last, scan_answer, undamaged}
+use Rattle.change_core.proofs.Members.{found_kind, found_stands, none_stands}
 use Rattle.read_client.specs.declared.questions.Look.{Look}
 use Rattle.read_client.specs.declared.questions.Look.TheVariants as looks
 use Rattle.read_client.specs.declared.questions.Question.{Question}
@@ -66,10 +67,10 @@ use Rattle.read_client.specs.Following.{Follows, FollowsStage, IsRead, SinceGot,
 use Rattle.read_client.specs.Polling.{RowGot}
 use Rattle.read_client.specs.Reading.{AsksAs, GoesBy, IsGetting, IsReading, IsSound, MovesByFetched, MovesByStage, after_poll, call_by, call_of, counted, holding, look_poll, missing_poll, own_member, parts_poll, question, read_call, rows_answer, shard_of, staged}
 use Rattle.read_client.proofs.HowRead.{HowGot, HowRead, IsScanStage, checked, damaged, fails, gains, got, heavy, how_read, misses, scanned, spoilt, unscanned}
-use Rattle.read_client.proofs.LegalPolls.{LegalOf, LegalPoll, after_calls, found_kind, gone_expired, is_there, legal_poll, own_kind, scan_now, some_is}
+use Rattle.read_client.proofs.LegalPolls.{LegalOf, LegalPoll, after_calls, gone_expired, is_there, legal_poll, own_kind, scan_now, some_is}
 use Rattle.read_client.proofs.Looks.{HowAsks, HowLook, HowParts, ReadsParts, SomeParts, all_named, asked, content_parts, gone, how_asks, how_look, nothing, over, parts_some, reads_parts, rows, slice, slice_parts, strange as shown_strange, too_early, too_far, too_late}
 use Rattle.read_client.proofs.Waiting.{others_on}
-use Rattle.read_client.proofs.Places.{NoScanOf, at_last, found_stands, gone_back, got_since, joined_owns, next_count, none_stands, rows_back, stand_back, step_back}
+use Rattle.read_client.proofs.Places.{NoScanOf, at_last, gone_back, got_since, joined_owns, next_count, rows_back, stand_back, step_back}
 use Rattle.read_client.proofs.QuestionLegality.{Told, behind_told, early_told, ended_told, late_told, question_done, quiet_told, rows_told, step_told}
 use Rattle.read_client.proofs.StepParts.{row_in, row_since}
 use Rattle.read_client.proofs.Stretch.{replay_behind}

@@ -31,7 +31,8 @@ module _ (client : ℕ) (w : Writer) (list : List Update) (start : Stored) (e : 
   abbrev Changes : ℕ → Type 0
   Changes member = ChangesAt AsWriter member w.trying client list start e others es
 
-  changes : (member : ℕ) → IsChange AsWriter member w.trying.step → (IsOfMember w.trying.step → FollowsMember w (mine_back start es client) member) →
+  changes : (member : ℕ) → IsChange AsWriter member w.trying.step →
+      (IsOfMember w.trying.step → FollowsMember w (mine_back start es client) member) →
       Changes member
   changes member change joined = record {
     at = record {
