@@ -1,15 +1,18 @@
 -- How a command over a store that was just opened ends.
-use Rattle.std.proofs.Common.{◌≡◌, ℕ, ◌≤◌, Bool, true, false, Option, Some, List, [], refl, sym, ap, subst, ◌∙◌}
+use Rattle.std.proofs.Common.{◌≡◌, ℕ, ◌≤◌, Bool, true, false, Option, Some, List, [], ◌∷◌, ◌++◌, refl, sym, ap, subst, ◌∙◌}
 use Rattle.causes.specs.Causes.{Rose}
 use Rattle.store_core.specs.Stores.{Stored}
+use Rattle.store_core.specs.declared.entries.Entry.{Entry}
+use Rattle.store_core.specs.declared.outcomes.Outcome.TheVariants.{Took}
 use Rattle.store_core.specs.Histories.{History}
 use Rattle.journal_core.specs.declared.disks.Disk.{Ghosts}
-use Rattle.driving.specs.StoreTurns.{Extends}
+use Rattle.driving.specs.StoreTurns.{EndsInFailure, Extends}
+use Rattle.feed_text.proofs.Spelling.{all_right, all_append}
 use Rattle.store_file.specs.declared.file_stores.FileStore.{FileStore}
-use Rattle.store_file.specs.FileStores.{disk_of, end_of, history_of, is_shut, store_now, told}
+use Rattle.store_file.specs.FileStores.{disk_of, end_of, is_shut, store_now}
 use Rattle.store_file.specs.Replays.{Keeps}
 use Rattle.store_file.proofs.Keeping.{keeps_stands}
-use Rattle.persist_app.specs.DiskLefts.{StandsWhereTold, opened}
+use Rattle.persist_app.specs.DiskLefts.{AllDone, StandsWhereTold}
 use Rattle.persist_app.specs.PlainEnds.{EndsPlainly}
 use Rattle.persist_app.proofs.DiskOpenings.{rose_before}
 
@@ -51,6 +54,21 @@ started h k trail (after, is, grown) =
 unshut : (shut : Bool) (before now : ℕ) → (shut ≡ true → Rose before now) → (Rose before now → ⊥) → shut ≡ false
 unshut true before now rose none = absurd (none (rose refl))
 unshut false before now rose none = refl
+
+-- one more call that was done
+pub done_more : (es es_now : List Entry) (e : Entry) → es_now ≡ es ++ e ∷ [] → e.outcome ≡ Took → AllDone es → AllDone es_now
+done_more es es_now e more took done =
+    subst AllDone (sym more) (all_append (λ (x : Entry). x.outcome ≡ Took) es (e ∷ []) done (took, tt))
+
+-- where a call failed, not each was done
+pub not_each : (h : History) → EndsInFailure h → AllDone h.trail → ⊥
+not_each h failure done =
+    failure.failed (all_right (λ (x : Entry). x.outcome ≡ Took) failure.front (failure.last ∷ []) (subst AllDone failure.trail done)).0
+
+-- so the store is shut
+pub shut_by : (shut : Bool) (h : History) → EndsInFailure h → (shut ≡ false → AllDone h.trail) → shut ≡ true
+shut_by true h failure done = refl
+shut_by false h failure done = absurd (not_each h failure (done refl))
 
 module _ {D : Type 0} {G : Ghosts D} where
   -- a store whose disk hasn't failed is what the disk's bytes stand for

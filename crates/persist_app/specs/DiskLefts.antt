@@ -1,6 +1,9 @@
 -- What is left of a disk.
 use Rattle.std.specs.Prelude.{⊤, ◌≡◌, ℕ, List, [], ◌∷◌, Option, Some}
 use Rattle.std.specs.Option.{ForSome}
+use Rattle.std.specs.List.{AllByRecursion}
+use Rattle.store_core.specs.declared.entries.Entry.{Entry}
+use Rattle.store_core.specs.declared.outcomes.Outcome.TheVariants.{Took}
 use Rattle.store_core.specs.Stores.{Stored, empty_store}
 use Rattle.store_core.specs.Histories.{History}
 use Rattle.journal_core.specs.declared.disks.Disk.{Ghosts}
@@ -14,6 +17,10 @@ use Rattle.persist_app.specs.declared.disk_lefts.DiskLeft.{DiskLeft}
 use Rattle.persist_app.specs.declared.disk_lefts.DiskLeft.TheVariants as lefts
 use Rattle.persist_app.specs.Endings.{IsStatus}
 use Rattle.persist_app.specs.DiskLines.{Refuses}
+
+-- each call was done
+abbrev pub AllDone : List Entry → Type 0
+AllDone entries = AllByRecursion (λ e. e.outcome ≡ Took) entries
 
 -- no bytes begin an empty store, and others the store that they stand for
 abbrev pub Begins : List ℕ → Stored → Type 0

@@ -101,6 +101,8 @@ pub fn persist_on_disk<So: Source, Si: Sink, D: Disk, K: Clock>(
         (So.faults src.old) (So.faults src.new) (Si.taken out.old) (Si.taken out.new) (Si.faults out.old) (Si.faults out.new)) }
     // It is shut only where the disk failed in this call.
     ensures shut { OnStore result.left (λ store. is_shut store ≡ true → Rose (D.faults disk) (disk_faults store)) }
+    // 6: the store is shut, and so the disk failed in this call.
+    ensures failed { OnStore result.left (λ store. result.status ≡ 6 → is_shut store ≡ true) }
     // Where the disk didn't fail in this call, its bytes stand for the store as it is.
     ensures stands { OnStore result.left (λ store. (Rose (D.faults disk) (disk_faults store) → ⊥)
         → StandsWhereTold (disk_of store) (store_now store)) }

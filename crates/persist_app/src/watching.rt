@@ -1,7 +1,7 @@
 // A command over a store in a file.
-ghost use Rattle.std.specs.Prelude.{◌≡◌, true, false, map, string_bytes};
+ghost use Rattle.std.specs.Prelude.{◌≡◌, true, false, [], map, string_bytes};
 ghost use Rattle.causes.specs.Causes.{Rose};
-ghost use Rattle.store_file.specs.FileStores.{told, is_shut, disk_faults, file_faults};
+ghost use Rattle.store_file.specs.FileStores.{told, history_of, is_shut, disk_faults, file_faults};
 ghost use Rattle.persist_app.specs.PlainEnds.{EndsPlainly};
 
 use crate::clocks::Clock;
@@ -25,11 +25,13 @@ fn watch<So: Source, Si: Sink, D: Disk, K: Clock, W: Watch>(
     _of: PhantomData<W>,
 ) -> Ended<FileStore<D>>
     requires open { is_shut store ≡ false }
+    requires trail { (history_of store).trail ≡ [] }
     requires count { W.count ≡ disk_faults store }
     ensures ends { EndsPlainly (map string_bytes words.now.items) result.status (told store) (told result.store)
         (file_faults store) (file_faults result.store) (So.left src.old) (So.left src.new) (So.reads src.old) (So.reads src.new)
         (So.faults src.old) (So.faults src.new) (Si.taken out.old) (Si.taken out.new) (Si.faults out.old) (Si.faults out.new) }
     ensures shut { is_shut result.store ≡ true → Rose W.count (disk_faults result.store) }
+    ensures failed { result.status ≡ 6 → is_shut result.store ≡ true }
 {
     let of: PhantomData<W> = PhantomData;
     let Ended {
@@ -49,10 +51,12 @@ pub fn over_file<So: Source, Si: Sink, D: Disk, K: Clock>(
     clock: &mut K,
 ) -> Ended<FileStore<D>>
     requires open { is_shut store ≡ false }
+    requires trail { (history_of store).trail ≡ [] }
     ensures ends { EndsPlainly (map string_bytes words.now.items) result.status (told store) (told result.store)
         (file_faults store) (file_faults result.store) (So.left src.old) (So.left src.new) (So.reads src.old) (So.reads src.new)
         (So.faults src.old) (So.faults src.new) (Si.taken out.old) (Si.taken out.new) (Si.faults out.old) (Si.faults out.new) }
     ensures shut { is_shut result.store ≡ true → Rose (disk_faults store) (disk_faults result.store) }
+    ensures failed { result.status ≡ 6 → is_shut result.store ≡ true }
 {
     watch::<So, Si, D, K, Brand>(alloc, words, src, out, store, clock, PhantomData)
 }

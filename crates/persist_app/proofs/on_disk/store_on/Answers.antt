@@ -1,4 +1,3 @@
-use Rattle.std.proofs.Common.{ℕ}
 use Rattle.std.specs.Option.{ForSome}
 use Rattle.store_file.specs.Causes.{IsCauseOf}
 use Rattle.store_file.specs.FileStores.{history_of}
