@@ -19,10 +19,11 @@ use Rattle.persist_app.proofs.DiskOpenings.{rose_before}
 -- the count that is looked at may be an earlier one
 pub ends_since : (words : List (List ℕ)) (status : ℕ) (told told_now : Option History) (early failed failed_now : ℕ)
     (left left_now : Option (List ℕ)) (reads reads_now faults faults_now : ℕ) (taken taken_now : Option (List ℕ)) (puts puts_now : ℕ)
-    → early ≤ failed → EndsPlainly words status told told_now failed failed_now left left_now reads reads_now faults faults_now taken taken_now puts puts_now
+    → early ≤ failed
+    → EndsPlainly words status told told_now failed failed_now left left_now reads reads_now faults faults_now taken taken_now puts puts_now
     → EndsPlainly words status told told_now early failed_now left left_now reads reads_now faults faults_now taken taken_now puts puts_now
-ends_since words status told told_now early failed failed_now left left_now reads reads_now faults faults_now taken taken_now puts puts_now
-    le e =
+ends_since words status told told_now early failed failed_now left left_now reads reads_now faults faults_now taken taken_now
+    puts puts_now le e =
     record {
       statuses = e.statuses;
       complete = e.complete;
