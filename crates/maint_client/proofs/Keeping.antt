@@ -1,11 +1,8 @@
 -- An expiry is a rule. Entries go newest first.
-use Rattle.std.proofs.Common.{◌≡◌, ℕ, Bool, true, false, cond, Option, Some, None, List, ◌∷◌, ◌++◌, refl, sym, ap, subst, inl, inr}
+use Rattle.std.proofs.Common.{◌≡◌, ℕ, true, false, Option, Some, None, ◌∷◌, ◌++◌, refl, sym, ap, subst, inl, inr}
 use Rattle.std.specs.Prelude.{IsSome}
 use Rattle.std.specs.List.{list_any}
-use Rattle.store_core.specs.declared.entries.Entry.{Entry}
-use Rattle.store_core.specs.Stores.{Stored}
 use Rattle.state_core.specs.declared.refusals.Refusal.{Refusal}
-use Rattle.state_core.specs.declared.refusals.Refusal.TheVariants as refusals
 use Rattle.state_core.specs.declared.transitions.Transition.{Transition}
 use Rattle.state_core.specs.declared.transitions.Transition.TheVariants.{Expire}
 use Rattle.state_core.specs.States.{ShardState}
@@ -32,6 +29,8 @@ none_due now s refusal h = elim (bool_cases (list_any (is_out now) s.members)) [
 pub not_open : (o : Option Expiry) → o ≡ None → ¬ IsSome o
 not_open o e is = let bad : false ≡ true = subst (λ (a : Option Expiry). IsSome a) e is in cc
 
+-- Removed: the commit follows the state whose members were looked at. None due: no other refusal has an expiry, and a Scan shows the
+-- refusing state.
 pub rule : IsRule expiring
 rule = record {
   same = λ r newest. (refl, refl);
@@ -55,8 +54,8 @@ rule = record {
       ),
     ),
   );
-  empty = λ r shard start e before answer ps is scan nothing. subst (λ (a : ExpireAnswer). LegalExpire r.now shard start
-      (placed e before ∷ ps) a) (let same : answers.NoneDue 0 ≡ answer = cc in same) (inl (scan, inl (refl, nothing)));
+  empty = λ r shard start e before answer ps is scan nothing. subst
+      (λ (a : ExpireAnswer). LegalExpire r.now shard start (placed e before ∷ ps) a) (let same : answers.NoneDue 0 ≡ answer = cc in same) (inl (scan, inl (refl, nothing)));
 }
 
 pub keeps : Keeps machine

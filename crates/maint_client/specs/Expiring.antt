@@ -1,5 +1,5 @@
 -- What an expiry asks and is answered. Entries go newest first.
-use Rattle.std.specs.Prelude.{⊤, ◌≡◌, ◌⊎◌, ℕ, Bool, true, false, if◌then◌else◌, Option, Some, None, IsSome, Result, Ok, Err, List, [], ◌∷◌}
+use Rattle.std.specs.Prelude.{⊤, ◌≡◌, ◌⊎◌, ℕ, false, if◌then◌else◌, Option, Some, None, IsSome, Result, Ok, Err, List, [], ◌∷◌}
 use Rattle.std.specs.List.{list_any}
 use Rattle.store_core.specs.declared.shards.ShardId.{ShardId}
 use Rattle.store_core.specs.Stores.{Stored}
@@ -46,15 +46,16 @@ RemovedAt start shard now members p =
 -- no lease has run out in the last version, which is this one; or there is none
 abbrev pub NoneDueAt : Stored → ShardId → ℕ → ℕ → Placed → Type 0
 NoneDueAt start shard now version p =
-    ((version ≡ 0) × (end_of ((store_at start p).logs shard) ≡ 0)) ⊎ AtLast start shard
-    (λ n s. (n ≡ version) × (list_any (is_out now) s.members ≡ false)) p
+    ((version ≡ 0) × (end_of ((store_at start p).logs shard) ≡ 0)) ⊎
+    AtLast start shard (λ n s. (n ≡ version) × (list_any (is_out now) s.members ≡ false)) p
 
 -- An answer is legal: the removed ones by a commit of the command, none due by its last Scan.
 abbrev pub LegalExpire : ℕ → ShardId → Stored → List Placed → ExpireAnswer → Type 0
 LegalExpire now shard start ps (answers.Removed members) = Among (RemovedAt start shard now members) ps
 LegalExpire now shard start ps (answers.NoneDue version) = AtLastScan shard (NoneDueAt start shard now version) ps
 
--- an expiry, as a rule
+-- An expiry, as a rule: the moment stays, the newest state's members are looked at before each call, a shard without versions is
+-- answered as none due in version 0, and so is each refusal, with the newest version.
 abbrev pub expiring : Rules Expiry ExpireAnswer
 expiring = record {
   Fixed = ℕ;
@@ -76,7 +77,6 @@ machine = words expiring
 abbrev pub Begins : Tryer Expiry → ℕ → Tryer Expiry → Result Unit BeginFault → Type 0
 Begins old now new (Ok done) = (old.asked ≡ None) × (new ≡ record {
   trying = begun old.trying.loader (Expire now);
-  asked =
-      Some (record { now = now; out = [] });
+  asked = Some (record { now = now; out = [] });
 })
 Begins old now new (Err fault) = (fault ≡ faults.Open) × IsSome old.asked × (new ≡ old)

@@ -127,8 +127,7 @@ module _ {R A : Type 0} (Q : Rules R A) (L : IsRule Q) where
       own = c.own;
       call_is = entry_call;
       of_others = c.of_others;
-      stands =
-          c.stands;
+      stands = c.stands;
       lawful = c.lawful;
       follows = a.follows.trying;
     }

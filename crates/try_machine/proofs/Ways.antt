@@ -54,8 +54,7 @@ module _ {R A : Type 0} (Q : Rules R A) where
   pub done_ended : (m new : Tryer R) (r : Reply) (answer : A) → Moves Q m r new (polls.Done answer) → Ended (kept Q m) new
   done_ended m new r answer moves = record {
     asked = by (way m new r (polls.Done answer) moves);
-    shard =
-        moved_shard m new r (polls.Done answer) moves;
+    shard = moved_shard m new r (polls.Done answer) moves;
   }
     where
       by : Way m r new (polls.Done answer) → new.asked ≡ None

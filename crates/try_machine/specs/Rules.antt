@@ -27,9 +27,13 @@ pub record Rules (R A : Type 0) : Type 1 where
   pub fixed : R → Fixed
   -- the transition that is tried for it
   pub step : Fixed → Transition
+  -- the rule with the memory that an answer to a commit on the newest state takes
   pub looked : R → Option ShardState → R
+  -- what is answered where the shard has no version; None where it is to get its first one
   pub empty : R → Option A
+  -- what is answered where the transition is in as a version, which is the newest
   pub committed : R → Option ShardState → ℕ → A
+  -- what the command comes to where the newest state refuses the transition
   pub refused : R → Option ShardState → Refusal → Poll A
   -- what the client's own entries say of it
   pub Knows : Fixed → ShardId → List Answered → Type 0
@@ -62,19 +66,25 @@ pub record TriesAt {R A : Type 0} (Q : Rules R A) (f : Q.Fixed) (t : Trying) (cl
 
 -- What holds of each rule.
 pub record IsRule {R A : Type 0} (Q : Rules R A) : Type 0 where
+  -- looking changes nothing of what is asked
   pub same : (r : R) (newest : Option ShardState) → AsksSame Q r (Q.looked r newest)
+  -- a refusal ends the command
   pub ends : (r : R) (newest : Option ShardState) (refusal : Refusal) → IsEnd (Q.refused r newest refusal)
   -- it asks nothing of parts
   pub holds : (f : Q.Fixed) (own : List Answered) → Holds own (Q.step f)
+  -- what is known stays so past each entry of the client
   pub knows_on : (f : Q.Fixed) (shard : ShardId) (o : Answered) (own : List Answered) → Q.Knows f shard own → Q.Knows f shard (o ∷ own)
+  -- what a commit is answered is legal
   pub committed : (r : R) (t new : Trying) (client : ℕ) (list : List Update) (start : Stored) (e : Entry) (others es : List Entry)
       (version : ℕ) (ps : List Placed) → TriesAt Q (Q.fixed r) t client list start e others es →
       Committing t new start e (others ++ es) version → Q.Legal (Q.fixed r) t.loader.shard start (placed e (others ++ es) ∷ ps)
       (Q.committed (Q.looked r t.loader.cached) new.loader.cached version)
+  -- what a refusal comes to is legal, by the newest state that a Scan has just shown
   pub refused : (r : R) (t new : Trying) (client : ℕ) (list : List Update) (start : Stored) (e : Entry) (others es : List Entry)
       (refusal : Refusal) (ps : List Placed) → TriesAt Q (Q.fixed r) t client list start e others es →
       Newest t new start e (others ++ es) (λ s. standing_refusal s t.step ≡ Some refusal) →
       LegalEnd Q (Q.fixed r) t.loader.shard start (placed e (others ++ es) ∷ ps) (Q.refused r new.loader.cached refusal)
+  -- what is answered after a Scan of a shard without versions is legal
   pub empty : (r : R) (shard : ShardId) (start : Stored) (e : Entry) (before : List Entry) (answer : A) (ps : List Placed) →
       Q.empty r ≡ Some answer → IsAnsweredScan shard (placed e before) →
       end_of ((replay_back start before).logs shard) ≡ 0 → Q.Legal (Q.fixed r) shard start (placed e before ∷ ps) answer

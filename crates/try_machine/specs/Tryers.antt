@@ -41,8 +41,7 @@ AskSame Q (Some r) new = IfSome new (λ q. AsksSame Q r q)
 abbrev pub Prepares : {R A : Type 0} → Rules R A → Tryer R → Tryer R → Type 0
 Prepares Q old new = (t : Trying) × trying.Prepares old.trying t × (new ≡ record {
   trying = t;
-  asked =
-      looked_asked Q old.asked old.trying.loader.cached;
+  asked = looked_asked Q old.asked old.trying.loader.cached;
 })
 
 -- what is answered to a Scan that shows no version, where none was seen
@@ -77,13 +76,11 @@ asked_after asked _ = None
 abbrev pub MovesBy : {R A : Type 0} → Rules R A → Option A → R → Tryer R → Reply → Tryer R → Poll A → Type 0
 MovesBy Q (Some answer) r old reply new poll = (poll ≡ polls.Done answer) × (new ≡ record {
   trying = trying.called old.trying;
-  asked =
-      None;
+  asked = None;
 })
 MovesBy Q None r old reply new poll =
     (t : Trying) × (tried : Tried) × trying.Moves old.trying reply t tried × (poll ≡ verdict Q r t tried) × (new ≡ record {
-      trying =
-          t;
+      trying = t;
       asked = asked_after (Some r) poll;
     })
 
