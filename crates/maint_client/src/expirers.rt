@@ -59,8 +59,10 @@ impl Expirer {
         requires { IsSound expiring self.old.tryer }
         ensures begins { Begins self.old.tryer now self.new.tryer result }
         ensures sound { IsSound expiring self.new.tryer }
-        ensures follows { (client : ℕ) (front : Option History) → FollowsWhere machine client front self.old.tryer → FollowsWhere machine client front self.new.tryer }
-        ensures cost { OnOk result ((base client : ℕ) (front : Option History) → 3 ≤ base → WhereLawful self.new.tryer.trying.loader.shard front (Backwards (machine.CostAt base client self.new.tryer))) }
+        ensures follows { (client : ℕ) (front : Option History) → FollowsWhere machine client front self.old.tryer
+            → FollowsWhere machine client front self.new.tryer }
+        ensures cost { OnOk result ((base client : ℕ) (front : Option History) → 3 ≤ base
+            → WhereLawful self.new.tryer.trying.loader.shard front (Backwards (machine.CostAt base client self.new.tryer))) }
     {
         if self.tryer.asked.is_some() {
             return Err(BeginFault::Open);
@@ -86,14 +88,16 @@ impl Expirer {
         // Over each told front that is lawful and starts as a collection, the expirer follows from the client's own entries.
         requires follows { FollowsWhere machine (P.client port.old) (P.front port.old) self.old.tryer }
         // At most one call is made, one that the client may make, and its reply comes to this.
-        ensures polled { IfOk result (λ poll. Polled machine (P.client port.old) (P.front port.old) (P.front port.new) self.old.tryer self.new.tryer poll) }
+        ensures polled { IfOk result (λ poll. Polled machine (P.client port.old) (P.front port.old) (P.front port.new)
+            self.old.tryer self.new.tryer poll) }
         ensures memory { OnErr result (Unpolled machine (P.client port.old) (P.front port.old) (P.front port.new) self.old.tryer self.new.tryer) }
         ensures sound { IsSound expiring self.new.tryer }
         ensures follows { FollowsWhere machine (P.client port.old) (P.front port.new) self.new.tryer }
         // Each answer is legal at the end of the front, and nothing is damaged there.
         ensures legal { IfOk result (λ poll. LegalWhere machine (P.client port.old) (P.front port.new) self.old.tryer self.new.tryer poll) }
         // The bound on the calls is kept.
-        ensures cost { IfOk result (λ poll. CostGoesOn machine (P.client port.old) (P.front port.old) (P.front port.new) self.old.tryer self.new.tryer poll) }
+        ensures cost { IfOk result (λ poll. CostGoesOn machine (P.client port.old) (P.front port.old) (P.front port.new)
+            self.old.tryer self.new.tryer poll) }
         ensures busy { result ≡ Ok polls.Busy → P.misses port.old < P.misses port.new }
         ensures fault { result ≡ Ok polls.Fault → Rose (P.faults port.old) (P.faults port.new) }
         ensures faults { P.faults port.old ≤ P.faults port.new }

@@ -72,33 +72,7 @@ fn begin_word(alloc: Global, expirer: &mut Expirer, now: u64) -> &'static str
     }
 }
 
-// Polls the open expiry once, where one is open.
-fn poll_once(
-    alloc: Global,
-    expirer: &mut Expirer,
-    store: &mut UntoldStore,
-) -> Result<Option<Poll<ExpireAnswer>>, AllocError>
-    requires { IsSound expiring expirer.old.tryer }
-    ensures { IsSound expiring expirer.new.tryer }
-{
-    if !expirer.busy() {
-        return Ok(None);
-    }
-    let poll = expirer.poll(alloc, &mut DirectPort::new(store, 7))?;
-    Ok(Some(poll))
-}
-
-// What a poll came to: the version where none was due, or the count and the greatest number of the removed members.
-fn word(poll: Option<Poll<ExpireAnswer>>) -> (&'static str, u64, u64) {
-    match poll {
-        Some(Poll::Done(answer)) => answer_word(answer),
-        Some(Poll::More) => ("more", 0, 0),
-        Some(Poll::Fault) => ("fault", 0, 0),
-        Some(_) => ("another poll", 0, 0),
-        None => ("idle", 0, 0),
-    }
-}
-
+// The word of an answer: the version in which none was due, or the count and the last of the removed members' numbers.
 fn answer_word(answer: ExpireAnswer) -> (&'static str, u64, u64) {
     match answer {
         ExpireAnswer::NoneDue { version } => ("none", version, 0),
@@ -110,7 +84,27 @@ fn answer_word(answer: ExpireAnswer) -> (&'static str, u64, u64) {
     }
 }
 
-// What a poll comes to.
+// One call of the open expiry, and what its poll comes to. None where none is open.
+fn poll_once(
+    alloc: Global,
+    expirer: &mut Expirer,
+    store: &mut UntoldStore,
+) -> Result<Option<(&'static str, u64, u64)>, Fail>
+    requires { IsSound expiring expirer.old.tryer }
+    ensures { IsSound expiring expirer.new.tryer }
+{
+    if !expirer.busy() {
+        return Ok(None);
+    }
+    match expirer.poll(alloc, &mut DirectPort::new(store, 7))? {
+        Poll::Done(answer) => Ok(Some(answer_word(answer))),
+        Poll::More => Ok(Some(("more", 0, 0))),
+        Poll::Fault => Ok(Some(("fault", 0, 0))),
+        _ => Ok(Some(("another poll", 0, 0))),
+    }
+}
+
+// What the last of up to two polls comes to.
 fn poll_word(
     alloc: Global,
     expirer: &mut Expirer,
@@ -119,23 +113,9 @@ fn poll_word(
     requires { IsSound expiring expirer.old.tryer }
     ensures { IsSound expiring expirer.new.tryer }
 {
-    let poll = poll_once(alloc, expirer, store)?;
-    Ok(word(poll))
-}
-
-// Polls once, and once more where More comes of it, and gives the last poll.
-fn poll_on(
-    alloc: Global,
-    expirer: &mut Expirer,
-    store: &mut UntoldStore,
-) -> Result<Option<Poll<ExpireAnswer>>, AllocError>
-    requires { IsSound expiring expirer.old.tryer }
-    ensures { IsSound expiring expirer.new.tryer }
-{
-    match poll_once(alloc, expirer, store)? {
-        Some(Poll::More) => poll_once(alloc, expirer, store),
-        first => Ok(first),
-    }
+    let first = poll_once(alloc, expirer, store)?;
+    let second = poll_once(alloc, expirer, store)?;
+    Ok(second.or(first).unwrap_or(("idle", 0, 0)))
 }
 
 // What an expiry at this moment comes to within two polls.
@@ -149,8 +129,7 @@ fn expiry_word(
     ensures { IsSound expiring expirer.new.tryer }
 {
     begin_word(alloc, expirer, now);
-    let last = poll_on(alloc, expirer, store)?;
-    Ok(word(last))
+    poll_word(alloc, expirer, store)
 }
 
 // Nobody is removed before a lease has run out, then all whose lease has, and a writer never.
@@ -197,26 +176,29 @@ fn an_empty_shard_stays_empty(rt: HostRuntime) -> Result<(), Fail> {
     Ok(())
 }
 
-// What an expiry at 100 comes to after its Cas, the call with the number 1, failed.
-fn word_past_fault(alloc: Global, took: bool) -> Result<(&'static str, u64, u64), Fail> {
+// What the first two polls of an expiry at 100 come to, and then the next two. The call with the number 1, its Cas, fails.
+fn words_past_fault(
+    alloc: Global,
+    took: bool,
+) -> Result<((&'static str, u64, u64), (&'static str, u64, u64)), Fail> {
     let mut faults = FaultList::new(alloc);
     faults.push(FaultAt { number: 1, took })?;
     let mut store = four_members(alloc, faults)?;
     let mut expirer = Expirer::new(SHARD);
-    begin_word(alloc, &mut expirer, 100);
-    let failed = poll_on(alloc, &mut expirer, &mut store)?;
-    let shown = poll_on(alloc, &mut expirer, &mut store)?;
-    match failed {
-        Some(Poll::Fault) => Ok(word(shown)),
-        failed => Ok(word(failed)),
-    }
+    let failed = expiry_word(alloc, &mut expirer, &mut store, 100)?;
+    let shown = poll_word(alloc, &mut expirer, &mut store)?;
+    Ok((failed, shown))
 }
 
 // After a Cas that failed the next Scan tells whether it took effect. If it did, none is due any more.
 #[test]
 fn a_failed_commit_is_followed_by_a_scan(rt: HostRuntime) -> Result<(), Fail> {
     let alloc = rt.alloc();
-    assert_eq!(rt; word_past_fault(alloc, true)?, ("none", 5, 0));
-    assert_eq!(rt; word_past_fault(alloc, false)?, ("removed", 2, 3));
+    let (failed, shown) = words_past_fault(alloc, true)?;
+    assert_eq!(rt; failed, ("fault", 0, 0));
+    assert_eq!(rt; shown, ("none", 5, 0));
+    let (failed, shown) = words_past_fault(alloc, false)?;
+    assert_eq!(rt; failed, ("fault", 0, 0));
+    assert_eq!(rt; shown, ("removed", 2, 3));
     Ok(())
 }
