@@ -1,0 +1,6 @@
+use Rattle.std.proofs.Common.{◌≡◌, ◌++◌, drop}
+use Rattle.maint_client.specs.Expiring.{out_numbers}
+use Rattle.maint_client.proofs.expiries.out_numbers.Given as goal
+
+abbrev pub invariant-loop-member : goal.invariant-loop-member
+invariant-loop-member l = record { left : l.numbers ++ out_numbers l.now (drop l.member-index l.members) ≡ out_numbers l.now l.members }

@@ -1,0 +1,11 @@
+use Rattle.machine_core.proofs.Polls.{spared_where}
+use Rattle.try_machine.specs.declared.tryers.Tryer.{Tryer}
+use Rattle.maint_client.specs.declared.expire_answers.ExpireAnswer.{ExpireAnswer}
+use Rattle.maint_client.specs.declared.expiries.Expiry.{Expiry}
+use Rattle.maint_client.specs.Expiring.{machine}
+use Rattle.maint_client.proofs.Keeping.{keeps, not_open}
+use Rattle.maint_client.proofs.laws.follows_past_others_machines.Goals as goal
+
+pub returns : goal.returns
+returns c client front now call r x closed = spared_where (Tryer Expiry) ExpireAnswer machine keeps client front now call r x.tryer
+    (not_open x.tryer.asked closed) tt
