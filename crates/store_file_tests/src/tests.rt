@@ -55,3 +55,25 @@ fn a_disk_that_fails_shuts_the_store(rt: HostRuntime) -> Result<(), Fail> {
     assert_eq!(rt; disk_of(store).made(), 4);
     Ok(())
 }
+
+#[test]
+fn each_image_of_a_run_has_what_was_answered(rt: HostRuntime) -> Result<(), Fail> {
+    let alloc = rt.alloc();
+    let mut store = created(alloc, None)?;
+    assert_eq!(rt; set_in_turn(alloc, &mut store, 20)?, 20);
+    let disk = disk_of(store);
+    assert_eq!(rt; disk.made(), 82);
+    for written in 0..53 {
+        assert!(rt; images_hold(alloc, &disk, written)?, "with {written} bytes");
+    }
+    Ok(())
+}
+
+#[test]
+fn each_fault_of_a_disk_leaves_what_was_answered(rt: HostRuntime) -> Result<(), Fail> {
+    let alloc = rt.alloc();
+    for at in 2..83 {
+        assert!(rt; holds_after_fault(alloc, at)?, "a fault at {at}");
+    }
+    Ok(())
+}
