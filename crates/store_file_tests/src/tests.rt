@@ -77,3 +77,16 @@ fn each_fault_of_a_disk_leaves_what_was_answered(rt: HostRuntime) -> Result<(), 
     }
     Ok(())
 }
+
+#[test]
+fn a_file_that_is_no_store_is_left_alone(rt: HostRuntime) -> Result<(), Fail> {
+    let alloc = rt.alloc();
+    for text in [
+        b"\x00".as_slice(),
+        b"PERSJNL2\x00".as_slice(),
+        b"a letter to a friend".as_slice(),
+    ] {
+        assert_eq!(rt; calls_of_refusal(alloc, text)?, Some(3));
+    }
+    Ok(())
+}
