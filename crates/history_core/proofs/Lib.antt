@@ -75,3 +75,4 @@ pub mod Committed
 pub mod Answering
 pub mod SameCalls
 pub mod TakenLaws
+pub mod WorkedUpkeep
