@@ -76,3 +76,4 @@ pub mod Answering
 pub mod SameCalls
 pub mod TakenLaws
 pub mod WorkedUpkeep
+pub mod Deleting
