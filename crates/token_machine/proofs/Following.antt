@@ -41,12 +41,7 @@ key_under shard member token i (suc n) (q ∷ qs) k h e = key_under shard member
 unset_as : (shard : ShardId) (member token : ℕ) (s : Setting) (call : Call) → AreKeys shard member token 0 s.keys →
     (¬ IsSetUnder shard member token call) → SetsAs s call
 unset_as shard member token s (calls.Set k b) keys none = λ i e. absurd (none (key_under shard member token 0 i s.keys k keys e))
-unset_as shard member token s (calls.Head at) keys none = tt
-unset_as shard member token s (calls.Scan at from) keys none = tt
-unset_as shard member token s (calls.Cas at expected bytes) keys none = tt
-unset_as shard member token s (calls.Truncate at below) keys none = tt
-unset_as shard member token s (calls.Get key) keys none = tt
-unset_as shard member token s (calls.Delete key) keys none = tt
+unset_as shard member token s other keys none = tt
 
 all_unset : (shard : ShardId) (member token : ℕ) (s : Setting) (own : List Answered) → AreKeys shard member token 0 s.keys →
     (¬ Among (λ o. UsesToken shard member token o.entry.call) own) → AllByRecursion (λ o. SetsAs s o.entry.call) own

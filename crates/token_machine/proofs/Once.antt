@@ -74,12 +74,7 @@ spends_lower (Append a b c d e f g) member token from to (of, is) applies =
 spends_lower (Merge a b c d e) member token from to (of, is) applies =
     subst (λ (n : ℕ). Lower n token from) of (subst (λ (n : ℕ). Lower a n from) is
     (among_map (λ m. (m.number ≡ a) × ((m.kind ≡ Keeper) × (m.token < b))) (λ m. (m.number ≡ a) × (m.token < b)) from.members (λ m h. (h.0, h.1.1)) applies.makes.stands))
-spends_lower Init member token from to h applies = absurd h
-spends_lower (Join a b c) member token from to h applies = absurd h
-spends_lower (Leave a) member token from to h applies = absurd h
-spends_lower (Renew a b) member token from to h applies = absurd h
-spends_lower (Advance a b) member token from to h applies = absurd h
-spends_lower (Expire a) member token from to h applies = absurd h
+spends_lower other member token from to h applies = absurd h
 
 -- the member stands with a token that isn't below
 pub record TokenThere (s : ShardState) (member token last : ℕ) : Type 0 where
@@ -134,12 +129,7 @@ module _ (s : ShardState) (member token last : ℕ) where
         | inl u ↦ let bad : None ≡ Some (refusals.TokenOld last) = rw u at k in cc
         | inr u ↦ let bad : Some refusals.NotPresent ≡ Some (refusals.TokenOld last) = rw u at k in cc
       ]
-  token_there Init h k = absurd h
-  token_there (Join a b c) h k = absurd h
-  token_there (Leave a) h k = absurd h
-  token_there (Renew a b) h k = absurd h
-  token_there (Advance a b) h k = absurd h
-  token_there (Expire a) h k = absurd h
+  token_there other h k = absurd h
 
 -- ---- the command's entries
 
@@ -315,16 +305,7 @@ module _ (kind : Kind) (member token : ℕ) (s : Storing) (client : ℕ) (list :
             (subst (λ (k : ℕ). Stands member (λ m. m.token ≡ k) n.state.members) (eqb-true last token (and_true (last == token) new.trying.failed both).0) there.stands))
         | inr other ↦ absurd (never_ahead new (refusals.TokenOld last) moves last there other)
       ]
-  refused_legal new refusals.Memory moves = (newest new refusals.Memory moves, λ h. h, never_in new refusals.Memory moves)
-  refused_legal new refusals.Shape moves = (newest new refusals.Shape moves, λ h. h, never_in new refusals.Shape moves)
-  refused_legal new refusals.Spent moves = (newest new refusals.Spent moves, λ h. h, never_in new refusals.Spent moves)
-  refused_legal new (refusals.MembersFull n) moves = (newest new (refusals.MembersFull n) moves, λ h. h, never_in new (refusals.MembersFull n) moves)
-  refused_legal new refusals.NoMember moves = (newest new refusals.NoMember moves, λ h. h, never_in new refusals.NoMember moves)
-  refused_legal new (refusals.Back since) moves = (newest new (refusals.Back since) moves, λ h. h, never_in new (refusals.Back since) moves)
-  refused_legal new refusals.NotDue moves = (newest new refusals.NotDue moves, λ h. h, never_in new refusals.NotDue moves)
-  refused_legal new refusals.NotPresent moves = (newest new refusals.NotPresent moves, λ h. h, never_in new refusals.NotPresent moves)
-  refused_legal new (refusals.UpperIs current) moves = (newest new (refusals.UpperIs current) moves, λ h. h, never_in new (refusals.UpperIs current) moves)
-  refused_legal new (refusals.Heavy weight) moves = (newest new (refusals.Heavy weight) moves, λ h. h, never_in new (refusals.Heavy weight) moves)
+  refused_legal new other moves = (newest new other moves, λ h. h, never_in new other moves)
 
   -- ---- each outcome
 

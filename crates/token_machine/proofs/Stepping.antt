@@ -71,16 +71,8 @@ carried_uses shard step member token (calls.Cas at (Some n) bytes) c free none (
 carried_uses shard step member token (calls.Cas at None bytes) c free none (inl h) = h
 carried_uses shard step member token (calls.Cas at None bytes) c free none (inr h) = h
 carried_uses shard step member token (calls.Set k b) c free none h = free
-carried_uses shard step member token (calls.Head at) c free none (inl h) = h
-carried_uses shard step member token (calls.Head at) c free none (inr h) = h
-carried_uses shard step member token (calls.Scan at from) c free none (inl h) = h
-carried_uses shard step member token (calls.Scan at from) c free none (inr h) = h
-carried_uses shard step member token (calls.Truncate at below) c free none (inl h) = h
-carried_uses shard step member token (calls.Truncate at below) c free none (inr h) = h
-carried_uses shard step member token (calls.Get k) c free none (inl h) = h
-carried_uses shard step member token (calls.Get k) c free none (inr h) = h
-carried_uses shard step member token (calls.Delete k) c free none (inl h) = h
-carried_uses shard step member token (calls.Delete k) c free none (inr h) = h
+carried_uses shard step member token other c free none (inl h) = h
+carried_uses shard step member token other c free none (inr h) = h
 
 -- and leaves a member that its transition leaves
 pub carried_leaves : (shard : ShardId) (step : Transition) (member : ℕ) (call : Call) → OnlyCarries shard step call →
@@ -88,13 +80,7 @@ pub carried_leaves : (shard : ShardId) (step : Transition) (member : ℕ) (call 
 carried_leaves shard step member (calls.Cas at (Some n) bytes) c none h =
     let written : version_in shard (n + 1) bytes ≡ Some (c.1.0, step) = c.1.1 in
     none c.1.0 (subst (λ (o : Option (ShardState × Transition)). LeavesIn o member) written h.1)
-carried_leaves shard step member (calls.Cas at None bytes) c none h = h
-carried_leaves shard step member (calls.Set k b) c none h = h
-carried_leaves shard step member (calls.Head at) c none h = h
-carried_leaves shard step member (calls.Scan at from) c none h = h
-carried_leaves shard step member (calls.Truncate at below) c none h = h
-carried_leaves shard step member (calls.Get k) c none h = h
-carried_leaves shard step member (calls.Delete k) c none h = h
+carried_leaves shard step member other c none h = h
 
 -- it uses no token above that of its parts and its transition
 pub uses_none_above : (s : Storing) (call : Call) (member token later : ℕ) → IsSound s → call_of s ≡ Some call → token < later →

@@ -32,13 +32,7 @@ asks_of w asks.CloseWriter a = by w.member refl a.0
     by : (m : Option ℕ) → w.member ≡ m → IsSomeAnd m (λ member. w.storing.trying.step ≡ Leave member) → Asks w asks.CloseWriter
     by None is h = absurd h
     by (Some m) is h = closes m refl is h a.1
-asks_of w (asks.OpenReader shard now lease) a = absurd a
-asks_of w (asks.Snapshot at) a = absurd a
-asks_of w (asks.Listen as_of) a = absurd a
-asks_of w asks.Next a = absurd a
-asks_of w (asks.Advance to) a = absurd a
-asks_of w (asks.RenewReader now) a = absurd a
-asks_of w asks.CloseReader a = absurd a
+asks_of w other a = absurd a
 
 -- what was asked, where a command is busy
 pub asked_is : (w : Writer) (asked : Asked) → IsSound w → w.asked ≡ Some asked → IsAsked w asked
@@ -92,15 +86,7 @@ module _ (client : ℕ) (w v : Writer) (start : Stored) (es es2 : List Entry) (s
     where
       of : (a : Asked) → w.asked ≡ Some a → FollowsAsked client w start es a → FollowsAsked client v start es2 a
       of (asks.Append rows expected new) e k = append_on rows expected new e k
-      of (asks.OpenWriter shard) e k = tt
-      of asks.CloseWriter e k = tt
-      of (asks.OpenReader shard at lease) e k = tt
-      of (asks.Snapshot t) e k = tt
-      of (asks.Listen as_of) e k = tt
-      of asks.Next e k = tt
-      of (asks.Advance to) e k = tt
-      of (asks.RenewReader at) e k = tt
-      of asks.CloseReader e k = tt
+      of other e k = tt
 
       go : (o : Option Asked) → w.asked ≡ o → IfSome o (FollowsAsked client w start es) → IfSome o (FollowsAsked client v start es2)
       go None e k = tt
