@@ -66,14 +66,16 @@ pub storing_begun : (client member token : ℕ) (s : Storing) (start : Stored) (
     (s.trying.calls < most → AllByRecursion (λ p. IsAfter p.entry.call) (places client s.trying.calls es)) →
     (s.trying.calls < most → NoneCommits s.trying client start es) → FollowsStoring client member token s start es
 storing_begun client member token s start es owned keys unset unused carry after none = record {
-  stored = subst (λ (n : ℕ). AllByRecursion (λ p. StoredAs own p.0 p.1) (take n (zip s.setting.keys s.setting.parts))) (sym unset) tt;
+  stored = subst (λ (n : ℕ). AllByRecursion (λ p. StoredAs own p.0 p.1) (take n (zip s.setting.keys s.setting.parts)))
+      (sym unset) tt;
   settable = λ left. record {
     owned = owned;
     fresh = fresh;
     same = all_unset s.trying.loader.shard member token s.setting own keys unused;
     keys = keys;
   };
-  fresh = λ lt. none_dropped (λ (o : Answered). IsCasUnder s.trying.loader.shard member token o.entry.call) s.trying.calls own fresh;
+  fresh = λ lt. none_dropped (λ (o : Answered).
+      IsCasUnder s.trying.loader.shard member token o.entry.call) s.trying.calls own fresh;
   carry = carry;
   after = after;
   none = none;
@@ -108,13 +110,17 @@ pub storing_past : (client member token : ℕ) (s : Storing) (start : Stored) (o
     FollowsStoring client member token s start es → FollowsStoring client member token s start (others ++ es)
 storing_past client member token s start others es of h = record {
   stored = subst (λ (os : List Answered). IsStoredSoFar os s.setting) (sym mine) h.stored;
-  settable = λ left. subst (λ (os : List Answered). IsSettable os s.trying.loader.shard member token s.setting) (sym mine) (h.settable left);
-  fresh = λ lt. subst (λ (os : List Answered). ¬ Among (λ (o : Answered). IsCasUnder s.trying.loader.shard member token o.entry.call)
+  settable = λ left. subst (λ (os : List Answered). IsSettable os s.trying.loader.shard member token s.setting) (sym mine)
+      (h.settable left);
+  fresh = λ lt. subst (λ (os : List Answered). ¬ Among (λ (o : Answered).
+      IsCasUnder s.trying.loader.shard member token o.entry.call)
       (drop s.trying.calls os)) (sym mine) (h.fresh lt);
-  carry = λ lt. subst (λ (ps : List Placed). AllByRecursion (λ p. OnlyCarries s.trying.loader.shard s.trying.step p.entry.call) ps) (sym place)
+  carry = λ lt. subst (λ (ps : List Placed). AllByRecursion (λ p.
+      OnlyCarries s.trying.loader.shard s.trying.step p.entry.call) ps) (sym place)
       (h.carry lt);
   after = λ lt. subst (λ (ps : List Placed). AllByRecursion (λ p. IsAfter p.entry.call) ps) (sym place) (h.after lt);
-  none = λ lt fine. subst (λ (ps : List Placed). ¬ Among (CommitsAfter start s.trying.loader.shard) ps) (sym place) (h.none lt fine);
+  none = λ lt fine. subst (λ (ps : List Placed). ¬ Among (CommitsAfter start s.trying.loader.shard) ps) (sym place)
+      (h.none lt fine);
   unspent = λ fine. own_others start s.trying.loader.shard client member token others es of ∙ h.unspent fine;
 }
   where

@@ -1,5 +1,6 @@
 -- Parts and a transition follow from their client's own entries also after one more. Entries go newest first.
-use Rattle.std.proofs.Common.{◌≡◌, ℕ, suc, ◌+◌, ◌<◌, true, false, Option, Some, None, List, [], ◌∷◌, ◌++◌, length, drop, inl, inr, refl, sym, ap, subst, ◌∙◌, arith}
+use Rattle.std.proofs.Common.{◌≡◌, ℕ, suc, ◌+◌, ◌<◌, true, false, Option, Some, None, List, [], ◌∷◌, ◌++◌, length, drop, inl}
+use Rattle.std.proofs.Common.{inr, refl, sym, ap, subst, ◌∙◌, arith}
 use Rattle.std.specs.Prelude.{⊤, IsSome, nat_lt}
 use Rattle.std.specs.List.{AllByRecursion}
 use Rattle.std.proofs.lemmas.Bool.Decides.{nat_tests}
@@ -62,12 +63,14 @@ tried_no_set t = go t.next
     go (nexts.Cas r) = tt
 
 -- a Cas uses a token that its transition spends
-carried_uses : (shard : ShardId) (step : Transition) (member token : ℕ) (call : Call) → OnlyCarries shard step call → IsNoSet call →
+carried_uses : (shard : ShardId) (step : Transition) (member token : ℕ) (call : Call) → OnlyCarries shard step call →
+    IsNoSet call →
     ¬ Spends step member token → ¬ UsesToken shard member token call
 carried_uses shard step member token (calls.Cas at (Some n) bytes) c free none (inl h) = h
 carried_uses shard step member token (calls.Cas at (Some n) bytes) c free none (inr h) =
     let written : version_in shard (n + 1) bytes ≡ Some (c.1.0, step) = c.1.1 in
-    none (let spends : Spends step member token = subst (λ (o : Option (ShardState × Transition)). SpendsIn o member token) written h.1 in spends)
+    none (let spends : Spends step member token = subst (λ (o : Option (ShardState × Transition)).
+    SpendsIn o member token) written h.1 in spends)
 carried_uses shard step member token (calls.Cas at None bytes) c free none (inl h) = h
 carried_uses shard step member token (calls.Cas at None bytes) c free none (inr h) = h
 carried_uses shard step member token (calls.Set k b) c free none h = free
@@ -84,9 +87,11 @@ carried_leaves shard step member other c none h = h
 
 -- it uses no token above that of its parts and its transition
 pub uses_none_above : (s : Storing) (call : Call) (member token later : ℕ) → IsSound s → call_of s ≡ Some call → token < later →
-    (setting.IsOpen s.setting → (m : ℕ) × AreKeys s.trying.loader.shard m token 0 s.setting.keys) → (¬ Spends s.trying.step member later) →
+    (setting.IsOpen s.setting → (m : ℕ) × AreKeys s.trying.loader.shard m token 0 s.setting.keys) →
+    (¬ Spends s.trying.step member later) →
     ¬ UsesToken s.trying.loader.shard member later call
-uses_none_above s call member token later sound call_is lt keys none = elim (bool_cases (sets s)) [ inl h ↦ after_set h | inr h ↦ after_try h ]
+uses_none_above s call member token later sound call_is lt keys none = elim
+    (bool_cases (sets s)) [ inl h ↦ after_set h | inr h ↦ after_try h ]
   where
     after_try : sets s ≡ false → ¬ UsesToken s.trying.loader.shard member later call
     after_try h = carried_uses s.trying.loader.shard s.trying.step member later call (carries s call sound call_is)
@@ -110,7 +115,8 @@ tried_after t sound some = go t.next sound
     on : (r : Ready) (c : Option ShardState) → t.loader.cached ≡ c → IsSome c → trying.IsReadyAfter t.loader.shard c t.step r →
         IsAfter (calls.Cas t.loader.shard r.expected r.bytes)
     on r None cached o first = absurd (let bad : false ≡ true = o in cc)
-    on r (Some s) cached o ready = subst (λ (n : Option ℕ). IsAfter (calls.Cas t.loader.shard n r.bytes)) (sym ready.expected_is) tt
+    on r (Some s) cached o ready = subst (λ (n : Option ℕ). IsAfter (calls.Cas t.loader.shard n r.bytes))
+        (sym ready.expected_is) tt
 
     go : (next : Next) → trying.IsReadyNext t.loader t.step next → IsAfter (trying.call_by t.loader next)
     go nexts.Attempt h = tt
@@ -119,7 +125,8 @@ tried_after t sound some = go t.next sound
 
 -- ---- one more entry
 
-module _ (client : ℕ) (s : Storing) (start : Stored) (e : Entry) (others es : List Entry) (sound : IsSound s) (own_entry : e.client ≡ client)
+module _ (client : ℕ) (s : Storing) (start : Stored) (e : Entry) (others es : List Entry) (sound : IsSound s)
+    (own_entry : e.client ≡ client)
     (call_is : call_of s ≡ Some e.call) (of : OfOthers client others) where
   -- the client's entries before it
   abbrev Mine : List Answered
@@ -135,7 +142,8 @@ module _ (client : ℕ) (s : Storing) (start : Stored) (e : Entry) (others es : 
   -- ---- the member
 
   pub draws_on : (kind : Kind) (shard : ShardId) (m token : ℕ) → Draws kind shard m token Mine →
-      ((later : ℕ) → token < later → ¬ UsesToken shard m later e.call) → Draws kind shard m token (mine_back start (e ∷ (others ++ es)) client)
+      ((later : ℕ) → token < later → ¬ UsesToken shard m later e.call) → Draws kind shard m token
+      (mine_back start (e ∷ (others ++ es)) client)
   draws_on kind shard m token h uses = subst (Draws kind shard m token) (sym gained) (record {
     joined = inr h.joined;
     drawn = λ later lt k. elim k [ inl here ↦ uses later lt here | inr there ↦ h.drawn later lt there ];
@@ -151,11 +159,13 @@ module _ (client : ℕ) (s : Storing) (start : Stored) (e : Entry) (others es : 
       by (set h (p, progress, m, n, is)) =
           subst (λ (z : Storing). FollowsTrying z.trying (mine_back start (e ∷ (others ++ es)) client)) (sym n)
           (subst (λ (os : List Answered). FollowsTrying (counted s.trying) os) (sym gained)
-          (with_newest s.trying (counted s.trying) This Mine f refl refl (shows_on This Mine s.trying.loader.shard s.trying.loader.cached f.shown)))
+          (with_newest s.trying (counted s.trying) This Mine f refl refl
+          (shows_on This Mine s.trying.loader.shard s.trying.loader.cached f.shown)))
       by (try h (t, m, n)) = subst (λ (z : Storing). FollowsTrying z.trying (mine_back start (e ∷ (others ++ es)) client)) (sym n)
           (follows_gained s.trying t client tried start e others es sound.trying own_entry (call_false s e.call h call_is) of f m)
 
-  pub trying_called : FollowsTrying s.trying Mine → FollowsTrying (trying.called s.trying) (mine_back start (e ∷ (others ++ es)) client)
+  pub trying_called : FollowsTrying s.trying Mine → FollowsTrying (trying.called s.trying)
+      (mine_back start (e ∷ (others ++ es)) client)
   trying_called f = follows_called s.trying (trying.called s.trying) client start e others es own_entry of f refl
 
   -- ---- the parts
@@ -171,23 +181,30 @@ module _ (client : ℕ) (s : Storing) (start : Stored) (e : Entry) (others es : 
     ]
 
     storing_on : (new : Storing) → Same s.trying new.trying →
-        (new.trying.calls < most → NoneCommits s.trying client start es → NoneCommits new.trying client start (e ∷ (others ++ es))) →
-        (new.trying.failed ≡ false → is_commit_under (replay_back start (others ++ es)) s.trying.loader.shard m token e e.call ≡ false) →
+        (new.trying.calls < most → NoneCommits s.trying client start es → NoneCommits new.trying client start
+        (e ∷ (others ++ es))) →
+        (new.trying.failed ≡ false → is_commit_under (replay_back start
+        (others ++ es)) s.trying.loader.shard m token e e.call ≡ false) →
         IsStoredSoFar (This ∷ Mine) new.setting →
         (setting.IsOpen new.setting → IsSettable (This ∷ Mine) s.trying.loader.shard m token new.setting) → On new
     storing_on new same none quiet stored settable = record {
       stored = subst (λ (os : List Answered). IsStoredSoFar os new.setting) (sym gained) stored;
       settable = λ left. subst (λ (os : List Answered). IsSettable os new.trying.loader.shard m token new.setting) (sym gained)
           (subst (λ (d : ShardId). IsSettable (This ∷ Mine) d m token new.setting) (sym same.shard) (settable left));
-      fresh = λ lt. subst (λ (os : List Answered). ¬ Among (λ (o : Answered). IsCasUnder new.trying.loader.shard m token o.entry.call)
+      fresh = λ lt. subst (λ (os : List Answered). ¬ Among (λ (o : Answered).
+          IsCasUnder new.trying.loader.shard m token o.entry.call)
           (drop new.trying.calls os)) (sym gained)
-          (subst (λ (n : ℕ). ¬ Among (λ (o : Answered). IsCasUnder new.trying.loader.shard m token o.entry.call) (drop n (This ∷ Mine)))
+          (subst (λ (n : ℕ). ¬ Among (λ (o : Answered). IsCasUnder new.trying.loader.shard m token o.entry.call)
+          (drop n (This ∷ Mine)))
           (sym (one lt))
-          (subst (λ (d : ShardId). ¬ Among (λ (o : Answered). IsCasUnder d m token o.entry.call) (drop s.trying.calls Mine)) (sym same.shard)
+          (subst (λ (d : ShardId). ¬ Among (λ (o : Answered). IsCasUnder d m token o.entry.call) (drop s.trying.calls Mine))
+          (sym same.shard)
           (h.fresh (before lt))));
-      carry = λ lt. subst (λ (ps : List Placed). AllByRecursion (λ p. OnlyCarries new.trying.loader.shard new.trying.step p.entry.call) ps)
+      carry = λ lt. subst (λ (ps : List Placed). AllByRecursion (λ p.
+          OnlyCarries new.trying.loader.shard new.trying.step p.entry.call) ps)
           (sym (entries lt))
-          (subst (λ (x : Transition). AllByRecursion (λ p. OnlyCarries new.trying.loader.shard x p.entry.call) More) (sym same.step)
+          (subst (λ (x : Transition). AllByRecursion (λ p. OnlyCarries new.trying.loader.shard x p.entry.call) More)
+          (sym same.step)
           (subst (λ (d : ShardId). AllByRecursion (λ p. OnlyCarries d s.trying.step p.entry.call) More) (sym same.shard)
           (carries s e.call sound call_is, h.carry (before lt))));
       after = λ lt. subst (λ (ps : List Placed). AllByRecursion (λ p. IsAfter p.entry.call) ps) (sym (entries lt))
@@ -207,10 +224,12 @@ module _ (client : ℕ) (s : Storing) (start : Stored) (e : Entry) (others es : 
         before lt = let is = one lt in omega arith
 
         entries : new.trying.calls < most → places client new.trying.calls (e ∷ (others ++ es)) ≡ More
-        entries lt = ap (λ (n : ℕ). places client n (e ∷ (others ++ es))) (one lt) ∙ places_gained client s.trying.calls e others es own_entry of
+        entries lt = ap (λ (n : ℕ). places client n (e ∷ (others ++ es))) (one lt) ∙
+            places_gained client s.trying.calls e others es own_entry of
 
     -- none commits where this entry doesn't
-    none_on : (new : Trying) → Same s.trying new → (¬ CommitsAfter start s.trying.loader.shard (placed e (others ++ es))) → new.calls < most →
+    none_on : (new : Trying) → Same s.trying new → (¬ CommitsAfter start s.trying.loader.shard (placed e (others ++ es))) →
+        new.calls < most →
         NoneCommits s.trying client start es → NoneCommits new client start (e ∷ (others ++ es))
     none_on new same quiet lt none good =
         subst (λ (d : ShardId). ¬ Among (CommitsAfter start d) (places client new.calls (e ∷ (others ++ es)))) (sym same.shard)
@@ -222,7 +241,8 @@ module _ (client : ℕ) (s : Storing) (start : Stored) (e : Entry) (others es : 
     -- parts that are settable stay so after a Scan, which comes where one is left
     settable_on : sets s ≡ false → setting.IsOpen s.setting → IsSettable (This ∷ Mine) s.trying.loader.shard m token s.setting
     settable_on unset left =
-        let scan : e.call ≡ scan_of s.trying.loader = call_false s e.call unset call_is ∙ scan_call s.trying (scans s.trying.next refl) in
+        let scan : e.call ≡ scan_of s.trying.loader = call_false s e.call unset call_is ∙ scan_call s.trying
+        (scans s.trying.next refl) in
         let now = h.settable left in
         record {
           owned = inr now.owned;
@@ -240,7 +260,8 @@ module _ (client : ℕ) (s : Storing) (start : Stored) (e : Entry) (others es : 
         scans nexts.Attempt q = tt
         scans nexts.Scan q = tt
         scans (nexts.Cas r) q =
-            let test : nat_lt s.setting.place (length s.setting.keys) ≡ false = subst (λ (n : Next). sets_before n s.setting ≡ false) q unset in
+            let test : nat_lt s.setting.place (length s.setting.keys) ≡ false = subst
+            (λ (n : Next). sets_before n s.setting ≡ false) q unset in
             absurd (not_less s.setting.place (length s.setting.keys) test left)
           where
             not_less : (a b : ℕ) → nat_lt a b ≡ false → a < b → ⊥
@@ -266,7 +287,8 @@ module _ (client : ℕ) (s : Storing) (start : Stored) (e : Entry) (others es : 
             (λ c. let bad : calls.Set at.key at.bytes ≡ calls.Cas s.trying.loader.shard c.0.expected c.0.bytes = sym at.call_is ∙ c.0.call_is in cc))
             (λ good. set_none (replay_back start (others ++ es)) s.trying.loader.shard m token e at.key at.bytes at.call_is)
             (still_stored Mine s.setting p This progress h.stored set_is m_is)
-            (λ still. still_settable Mine s.trying.loader.shard m token s.setting p This progress (h.settable (sets_open s.trying.next s.setting q))
+            (λ still. still_settable Mine s.trying.loader.shard m token s.setting p This progress
+            (h.settable (sets_open s.trying.next s.setting q))
             set_is m_is))
         by (try q (t, m_is, n)) = subst On (sym n)
             (let call = call_false s e.call q call_is in
@@ -283,6 +305,7 @@ module _ (client : ℕ) (s : Storing) (start : Stored) (e : Entry) (others es : 
         let same : Same s.trying (trying.called s.trying) = record { shard = refl; step = refl; calls = refl; failed = λ z. z } in
         storing_on (called s) same
         (none_on (trying.called s.trying) same
-        (λ c. let bad : scan_of s.trying.loader ≡ calls.Cas s.trying.loader.shard c.0.expected c.0.bytes = sym scan ∙ c.0.call_is in cc))
+        (λ c. let bad : scan_of s.trying.loader ≡ calls.Cas s.trying.loader.shard c.0.expected c.0.bytes = sym scan ∙
+        c.0.call_is in cc))
         (λ good. scan_none (replay_back start (others ++ es)) m token e s.trying (scan ∙ sym (scan_call s.trying idle)) idle)
         (stored_on (setting.set_so_far s.setting) h.stored) (settable_on (scans_first s.trying.next s.setting idle))

@@ -63,13 +63,17 @@ scans_first nexts.Attempt s i = refl
 scans_first nexts.Scan s i = refl
 scans_first (nexts.Cas r) s i = absurd i
 
-pub scans_call : (s : Storing) (call : Call) → trying.IsScanning s.trying.next → call_of s ≡ Some call → call ≡ scan_of s.trying.loader
+pub scans_call : (s : Storing) (call : Call) → trying.IsScanning s.trying.next → call_of s ≡ Some call →
+    call ≡ scan_of s.trying.loader
 scans_call s call idle is = call_false s call (scans_first s.trying.next s.setting idle) is ∙ scan_call s.trying idle
 
-pub carries : (s : Storing) (call : Call) → IsSound s → call_of s ≡ Some call → OnlyCarries s.trying.loader.shard s.trying.step call
+pub carries : (s : Storing) (call : Call) → IsSound s → call_of s ≡ Some call →
+    OnlyCarries s.trying.loader.shard s.trying.step call
 carries s call sound e = elim (bool_cases (sets s)) [
-  | inl h ↦ let n = next_is s.setting call (call_true s call h e) in subst (OnlyCarries s.trying.loader.shard s.trying.step) (sym n.call_is) tt
-  | inr h ↦ subst (OnlyCarries s.trying.loader.shard s.trying.step) (sym (call_false s call h e)) (tried_carries s.trying sound.trying)
+  | inl h ↦ let n = next_is s.setting call (call_true s call h e) in subst (OnlyCarries s.trying.loader.shard s.trying.step)
+      (sym n.call_is) tt
+  | inr h ↦ subst (OnlyCarries s.trying.loader.shard s.trying.step) (sym (call_false s call h e))
+      (tried_carries s.trying sound.trying)
 ]
 
 -- it is allowed where a part that is left may be set, and where all are set and what the transition asks of them holds
@@ -77,14 +81,17 @@ pub storing_allowed : (s : Storing) (call : Call) (own : List Answered) (member 
     FollowsTrying s.trying own → (setting.IsOpen s.setting → IsSettable own s.trying.loader.shard member token s.setting) →
     (setting.IsDone s.setting → Holds own s.trying.step) → Allows own call
 storing_allowed s call own member token sound e f settable holds = elim (bool_cases (sets s)) [
-  | inl h ↦ next_allowed own s.trying.loader.shard member token s.setting call (settable (sets_open s.trying.next s.setting h)) (call_true s call h e)
-  | inr h ↦ subst (Allows own) (sym (call_false s call h e)) (tried_allowed s.trying own sound.trying f (next_holds s.trying.next refl h))
+  | inl h ↦ next_allowed own s.trying.loader.shard member token s.setting call (settable (sets_open s.trying.next s.setting h))
+      (call_true s call h e)
+  | inr h ↦ subst (Allows own) (sym (call_false s call h e)) (tried_allowed s.trying own sound.trying f
+      (next_holds s.trying.next refl h))
 ]
   where
     next_holds : (next : Next) → s.trying.next ≡ next → sets s ≡ false → HoldsNext next s.trying.step own
     next_holds nexts.Attempt q h = tt
     next_holds nexts.Scan q h = tt
-    next_holds (nexts.Cas r) q h = holds (sets_done r s.setting (subst (λ (n : Next). sets_before n s.setting ≡ false) q h) sound.setting)
+    next_holds (nexts.Cas r) q h = holds (sets_done r s.setting (subst (λ (n : Next).
+        sets_before n s.setting ≡ false) q h) sound.setting)
 
 -- ---- the ways of a reply
 
@@ -127,7 +134,8 @@ pub same_keys : (s new : Storing) (r : Reply) (tried : Tried) → Moves s r new 
 same_keys s new r tried moves = by (way s new r tried moves)
   where
     by : Way s r new tried → (new.setting.keys ≡ s.setting.keys) × (new.setting.parts ≡ s.setting.parts)
-    by (set h (p, progress, m, n, is)) = subst (λ (z : Storing). (z.setting.keys ≡ s.setting.keys) × (z.setting.parts ≡ s.setting.parts))
+    by (set h (p, progress, m, n, is)) = subst (λ (z : Storing). (z.setting.keys ≡ s.setting.keys) ×
+        (z.setting.parts ≡ s.setting.parts))
         (sym n) (same_parts s.setting p r progress m)
     by (try h (t, m, n)) = (ap (λ (z : Storing). z.setting.keys) n, ap (λ (z : Storing). z.setting.parts) n)
 
@@ -143,9 +151,12 @@ pub still_within : (s new : Storing) (r : Reply) (tried : Tried) → IsSound s �
     new.setting.place ≤ length new.setting.keys
 still_within s new r tried sound moves = by (way s new r tried moves)
   where
-    one_more : (p : Setting) (progress : Progress) → setting.Moves s.setting r p progress → setting.IsOpen s.setting → p.place ≤ length p.keys
-    one_more p progresses.More m left = subst (λ (z : Setting). z.place ≤ length z.keys) (sym m.1) (let lt : s.setting.place < length s.setting.keys = left in omega arith)
-    one_more p progresses.Done m left = subst (λ (z : Setting). z.place ≤ length z.keys) (sym m.1) (let lt : s.setting.place < length s.setting.keys = left in omega arith)
+    one_more : (p : Setting) (progress : Progress) → setting.Moves s.setting r p progress → setting.IsOpen s.setting →
+        p.place ≤ length p.keys
+    one_more p progresses.More m left = subst (λ (z : Setting). z.place ≤ length z.keys) (sym m.1)
+        (let lt : s.setting.place < length s.setting.keys = left in omega arith)
+    one_more p progresses.Done m left = subst (λ (z : Setting). z.place ≤ length z.keys) (sym m.1)
+        (let lt : s.setting.place < length s.setting.keys = left in omega arith)
     one_more p progresses.Fault m left = subst (λ (z : Setting). z.place ≤ length z.keys) (sym m.1) sound.setting.within
 
     by : Way s r new tried → new.setting.place ≤ length new.setting.keys
@@ -177,7 +188,8 @@ failed_fault s new tried moves = by (way s new replies.Failed tried moves)
     by (try h (t, m, n)) = tried_failed s.trying t tried m
 
 -- what ends a command without a commit is shown by the Scan that was just answered
-pub shown_stop : (s new : Storing) (call : Call) (r : Reply) (tried : Tried) → call_of s ≡ Some call → Moves s r new tried → IsStop tried →
+pub shown_stop : (s new : Storing) (call : Call) (r : Reply) (tried : Tried) → call_of s ≡ Some call → Moves s r new tried →
+    IsStop tried →
     IsShown s.trying.loader.shard call r
 shown_stop s new call r tried call_is moves stop = by (way s new r tried moves)
   where
@@ -191,7 +203,8 @@ shown_stop s new call r tried call_is moves stop = by (way s new r tried moves)
         (stop_shown s.trying t r tried stop m)
 
 -- what is answered for a try is a try
-pub tried_way : (s new : Storing) (r : Reply) (tried : Tried) → Moves s r new tried → (tried ≡ tries.Goes → ⊥) → (tried ≡ tries.Fault → ⊥) →
+pub tried_way : (s new : Storing) (r : Reply) (tried : Tried) → Moves s r new tried → (tried ≡ tries.Goes → ⊥) →
+    (tried ≡ tries.Fault → ⊥) →
     (sets s ≡ false) × ((t : Trying) × trying.Moves s.trying r t tried × (new ≡ record { trying = t; setting = s.setting }))
 tried_way s new r tried moves no_part no_fault = by (way s new r tried moves)
   where
@@ -199,12 +212,14 @@ tried_way s new r tried moves no_part no_fault = by (way s new r tried moves)
     none (goes is stored) = no_part is
     none (fails is failed) = no_fault is
 
-    by : Way s r new tried → (sets s ≡ false) × ((t : Trying) × trying.Moves s.trying r t tried × (new ≡ record { trying = t; setting = s.setting }))
+    by : Way s r new tried → (sets s ≡ false) × ((t : Trying) × trying.Moves s.trying r t tried ×
+        (new ≡ record { trying = t; setting = s.setting }))
     by (set h m) = absurd (none (set_way s new r tried m))
     by (try h m) = (h, m)
 
 -- ---- preparing
 
-pub prepares_same : (old new : Storing) → Prepares old new → new ≡ record { trying = trying.going old.trying new.trying.next; setting = old.setting }
+pub prepares_same : (old new : Storing) → Prepares old new →
+    new ≡ record { trying = trying.going old.trying new.trying.next; setting = old.setting }
 prepares_same old new (t, p, is) = is ∙ ap (λ (z : Trying). let s : Storing = record { trying = z; setting = old.setting } in s)
     (prepares_is old.trying t p ∙ ap (trying.going old.trying) (sym (ap (λ (z : Storing). z.trying.next) is)))

@@ -32,7 +32,8 @@ use Rattle.token_machine.specs.Storings.{IsSound, Moves, call_of}
 
 -- An entry of a client in a lawful history commits a version after another by this transition, when it had stored no part that it
 -- hasn't stored by now.
-pub record StepAt (client : ℕ) (own : List Answered) (start : Stored) (shard : ShardId) (step : Transition) (p : Placed) : Type 0 where
+pub record StepAt (client : ℕ) (own : List Answered) (start : Stored) (shard : ShardId) (step : Transition)
+    (p : Placed) : Type 0 where
   pub commit : Commits start shard p
   pub number : ℕ
   pub expected_is : commit.expected ≡ Some number
@@ -51,11 +52,13 @@ pub record IsInOnce (client : ℕ) (s : Storing) (start : Stored) (e : Entry) (b
   pub done : setting.IsDone s.setting
   pub stored : IsStoredSoFar (mine_back start before client) s.setting
   pub once : s.trying.calls < most → OnlyOne (Commits start s.trying.loader.shard)
-      (StepAt client (mine_back start before client) start s.trying.loader.shard s.trying.step) (command_entries client s e before)
+      (StepAt client (mine_back start before client) start s.trying.loader.shard s.trying.step)
+      (command_entries client s e before)
 
 -- none of them commits
 abbrev pub IsInNever : ℕ → Storing → Stored → Entry → List Entry → Type 0
-IsInNever client s start e before = s.trying.calls < most → ¬ Among (Commits start s.trying.loader.shard) (command_entries client s e before)
+IsInNever client s start e before = s.trying.calls < most → ¬ Among (Commits start s.trying.loader.shard)
+    (command_entries client s e before)
 
 -- a call of a client that stores parts under a token of its member and then tries a transition that spends it, in a lawful history
 pub record StoresAt (kind : Kind) (member token : ℕ) (s : Storing) (client : ℕ) (list : List Update) (start : Stored) (e : Entry)

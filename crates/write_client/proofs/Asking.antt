@@ -19,7 +19,8 @@ use Rattle.write_client.specs.Writing.{IsAppend, IsAsked, IsOpen, IsSound, shard
 pub data Asks (w : Writer) (asked : Asked) : Type 0 where
   opens : (shard : ShardId) → asked ≡ asks.OpenWriter shard → shard ≡ shard_of w → w.storing.trying.step ≡ Join AsWriter 0 0 →
       w.storing.setting.keys ≡ [] → Asks w asked
-  appends : (rows : List Update) (expected : ℕ) (new : Option ℕ) → asked ≡ asks.Append rows expected new → IsAppend w rows expected new →
+  appends : (rows : List Update) (expected : ℕ) (new : Option ℕ) → asked ≡ asks.Append rows expected new →
+      IsAppend w rows expected new →
       Asks w asked
   closes : (member : ℕ) → asked ≡ asks.CloseWriter → w.member ≡ Some member → w.storing.trying.step ≡ Leave member →
       w.storing.setting.keys ≡ [] → Asks w asked
@@ -54,11 +55,13 @@ none_left w is left =
 
 -- a member was seen to join
 pub member_seen : (w : Writer) (m : ℕ) → IsSound w → w.member ≡ Some m → IsSome w.storing.trying.loader.cached
-member_seen w m sound named = subst (λ (q : Option ℕ). IfSome q (λ member. IsSome w.storing.trying.loader.cached)) named sound.seen
+member_seen w m sound named = subst (λ (q : Option ℕ). IfSome q (λ member.
+    IsSome w.storing.trying.loader.cached)) named sound.seen
 
 -- ---- what it follows by
 
-pub append_facts : (client : ℕ) (w : Writer) (start : Stored) (es : List Entry) (rows : List Update) (expected : ℕ) (new : Option ℕ) (m : ℕ) →
+pub append_facts : (client : ℕ) (w : Writer) (start : Stored) (es : List Entry) (rows : List Update) (expected : ℕ)
+    (new : Option ℕ) (m : ℕ) →
     w.asked ≡ Some (asks.Append rows expected new) → w.member ≡ Some m → Follows client w start es →
     FollowsStoring client m w.token w.storing start es
 append_facts client w start es rows expected new m is named f =
@@ -67,7 +70,8 @@ append_facts client w start es rows expected new m is named f =
     subst (λ (o : Option ℕ). IfSome o (λ m. FollowsStoring client m w.token w.storing start es)) named asked
 
 module _ (client : ℕ) (w v : Writer) (start : Stored) (es es2 : List Entry) (same : v.member ≡ w.member)
-    (on : (m : ℕ) (rows : List Update) (expected : ℕ) (new : Option ℕ) → w.member ≡ Some m → w.asked ≡ Some (asks.Append rows expected new) →
+    (on : (m : ℕ) (rows : List Update) (expected : ℕ) (new : Option ℕ) → w.member ≡ Some m → w.asked ≡ Some
+    (asks.Append rows expected new) →
     FollowsStoring client m w.token w.storing start es → FollowsStoring client m v.token v.storing start es2) where
   append_on : (rows : List Update) (expected : ℕ) (new : Option ℕ) → w.asked ≡ Some (asks.Append rows expected new) →
       IfSome w.member (λ m. FollowsStoring client m w.token w.storing start es) →
@@ -76,8 +80,10 @@ module _ (client : ℕ) (w v : Writer) (start : Stored) (es es2 : List Entry) (s
     where
       go : (o : Option ℕ) → w.member ≡ o → IfSome o (λ m. FollowsStoring client m w.token w.storing start es) →
           IfSome v.member (λ m. FollowsStoring client m v.token v.storing start es2)
-      go None e k = subst (λ (p : Option ℕ). IfSome p (λ m. FollowsStoring client m v.token v.storing start es2)) (sym (same ∙ e)) tt
-      go (Some m) e k = subst (λ (p : Option ℕ). IfSome p (λ m. FollowsStoring client m v.token v.storing start es2)) (sym (same ∙ e))
+      go None e k = subst (λ (p : Option ℕ). IfSome p (λ m. FollowsStoring client m v.token v.storing start es2))
+          (sym (same ∙ e)) tt
+      go (Some m) e k = subst (λ (p : Option ℕ). IfSome p (λ m. FollowsStoring client m v.token v.storing start es2))
+          (sym (same ∙ e))
           (on m rows expected new e asked k)
 
   -- what was asked goes on following where an append does
@@ -88,6 +94,7 @@ module _ (client : ℕ) (w v : Writer) (start : Stored) (es es2 : List Entry) (s
       of (asks.Append rows expected new) e k = append_on rows expected new e k
       of other e k = tt
 
-      go : (o : Option Asked) → w.asked ≡ o → IfSome o (FollowsAsked client w start es) → IfSome o (FollowsAsked client v start es2)
+      go : (o : Option Asked) → w.asked ≡ o → IfSome o (FollowsAsked client w start es) → IfSome o
+          (FollowsAsked client v start es2)
       go None e k = tt
       go (Some a) e k = of a e k

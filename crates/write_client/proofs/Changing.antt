@@ -38,7 +38,8 @@ leave_change : (member : ℕ) → IsChange AsWriter member (Leave member)
 leave_change member = record { changes = refl; shaped = λ s. refl }
 
 module _ (client : ℕ) (w : Writer) (list : List Update) (start : Stored) (e : Entry) (others es : List Entry) (sound : IsSound w)
-    (follows : Follows client w start es) (own : e.client ≡ client) (of : OfOthers client others) (st : StandsFor start (shard_of w) list)
+    (follows : Follows client w start es) (own : e.client ≡ client) (of : OfOthers client others)
+    (st : StandsFor start (shard_of w) list)
     (lawful : LawfulBack start (e ∷ (others ++ es))) (call : e.call ≡ trying.call_of w.storing.trying) where
   abbrev Changes : ℕ → Type 0
   Changes member = ChangesAt AsWriter member w.storing.trying client list start e others es
@@ -73,18 +74,22 @@ module _ (client : ℕ) (w : Writer) (list : List Update) (start : Stored) (e : 
   asked_changes asked other (opens shard e of step none) = open_changes step
   asked_changes asked other (asks_append rows expected new e a) =
       absurd (let bad : true ≡ false = subst (λ (z : Asked). appends z ≡ false) e other in cc)
-  asked_changes asked other (closes m e named step none) = subst (λ (o : Option ℕ). Changes (unwrap_or o 0)) (sym named) (close_changes m named step)
+  asked_changes asked other (closes m e named step none) = subst (λ (o : Option ℕ). Changes (unwrap_or o 0)) (sym named)
+      (close_changes m named step)
 
 -- its outcome means what it says, however it came to it
 module _ (client : ℕ) (w : Writer) (list : List Update) (start : Stored) (e : Entry) (others es : List Entry) (sound : IsSound w)
-    (follows : Follows client w start es) (own : e.client ≡ client) (of : OfOthers client others) (st : StandsFor start (shard_of w) list)
+    (follows : Follows client w start es) (own : e.client ≡ client) (of : OfOthers client others)
+    (st : StandsFor start (shard_of w) list)
     (lawful : LawfulBack start (e ∷ (others ++ es))) (call_is : call_of w ≡ Some e.call) (s : Storing) (tried : Tried)
-    (moves : StoringMoves w.storing start e (others ++ es) s tried) (asked : Asked) (other : appends asked ≡ false) (a : Asks w asked) where
+    (moves : StoringMoves w.storing start e (others ++ es) s tried) (asked : Asked) (other : appends asked ≡ false)
+    (a : Asks w asked) where
   abbrev Came : Outcome
   Came = outcome s.trying (own_member w) tried
 
   by_way : (P : Outcome → Type 0) → P outcomes.Going → P outcomes.Fault →
-      ((t : Trying) → e.call ≡ trying.call_of w.storing.trying → trying.Moves w.storing.trying (reply (replay_back start (others ++ es)) e) t tried →
+      ((t : Trying) → e.call ≡ trying.call_of w.storing.trying → trying.Moves w.storing.trying
+      (reply (replay_back start (others ++ es)) e) t tried →
       t ≡ s.trying → P (outcome t (own_member w) tried)) → P Came
   by_way P going fault on = by (way w.storing s (reply (replay_back start (others ++ es)) e) tried moves)
     where
@@ -105,8 +110,10 @@ module _ (client : ℕ) (w : Writer) (list : List Update) (start : Stored) (e : 
 
   pub means_change : s.trying.calls < most → LegalChange start (shard_of w) (own_member w) w.storing.trying.step Came
       (places client s.trying.calls (e ∷ (others ++ es)))
-  means_change lt = by_way (λ o. LegalChange start (shard_of w) (own_member w) w.storing.trying.step o (places client s.trying.calls (e ∷ (others ++ es)))) tt tt
-      (λ t call m same. subst (λ (n : ℕ). LegalChange start (shard_of w) (own_member w) w.storing.trying.step (outcome t (own_member w) tried)
+  means_change lt = by_way (λ o. LegalChange start (shard_of w) (own_member w) w.storing.trying.step o
+      (places client s.trying.calls (e ∷ (others ++ es)))) tt tt
+      (λ t call m same. subst (λ (n : ℕ). LegalChange start (shard_of w) (own_member w) w.storing.trying.step
+      (outcome t (own_member w) tried)
       (places client n (e ∷ (others ++ es)))) (ap (λ (z : Trying). z.calls) same)
       (change_legal AsWriter (own_member w) w.storing.trying t client list start e others es
       (asked_changes client w list start e others es sound follows own of st lawful call asked other a) tried m
