@@ -1,5 +1,5 @@
 -- What a command's words and its ending say together.
-use Rattle.std.proofs.Common.{◌≡◌, ℕ, Option, Some, None, List, [], refl, sym, subst}
+use Rattle.std.proofs.Common.{◌≡◌, ℕ, ◌⊎◌, inl, inr, Option, Some, None, List, [], refl, sym, subst}
 use Rattle.std.proofs.lemmas.List.{append-nil}
 use Rattle.store_core.specs.declared.shards.ShardId.{ShardId}
 use Rattle.store_core.specs.Histories.{History}
@@ -13,7 +13,7 @@ use Rattle.plain_run.specs.declared.endings.Ending.{Ending}
 use Rattle.plain_run.specs.declared.endings.Ending.TheVariants as endings
 use Rattle.causes.specs.Causes.{Rose}
 use Rattle.plain_run.specs.Endings.{RunsPlainly}
-use Rattle.persist_app.specs.Endings.{IsRun, NoRun, Performs, RefusesLine, RunsOn}
+use Rattle.persist_app.specs.Endings.{Finishes, IsRun, NoRun, Performs, RefusesLine, RunsOn, Spares}
 
 module _ (words : List (List ℕ)) (ending : Option Ending) (told told_now : Option History) (left now : Option (List ℕ)) (reads reads_now : ℕ)
     (taken between : Option (List ℕ)) (puts puts_now : ℕ)
@@ -38,11 +38,11 @@ module _ (words : List (List ℕ)) (ending : Option Ending) (told told_now : Opt
         stopped.0,
         stopped.1,
         record {
-          text = stopped.2;
-          had = stopped.3;
+          text = stopped.2.0;
+          had = stopped.2.1;
           number = number;
-          fault = stopped.4;
-          written = subst (λ (t : Option (List ℕ)). Gains t taken_now (line_fault_text number)) stopped.5 written;
+          fault = stopped.2.2;
+          written = subst (λ (t : Option (List ℕ)). Gains t taken_now (line_fault_text number)) stopped.2.3 written;
         },
       )
 
@@ -51,7 +51,7 @@ module _ (words : List (List ℕ)) (ending : Option Ending) (told told_now : Opt
       RunsOn words (λ shard. Rose reads reads_now × Gains taken taken_now text)
   input_failed taken_now text is written =
       let stopped = performed_as (Some endings.InputFailed) is in
-      (stopped.0, stopped.1, stopped.2, subst (λ (t : Option (List ℕ)). Gains t taken_now text) stopped.3 written)
+      (stopped.0, stopped.1, (stopped.2.0, subst (λ (t : Option (List ℕ)). Gains t taken_now text) stopped.2.1 written))
 
 -- words that are `run` of a shard are of no other
 pub same_shard : (words : List (List ℕ)) (a b : ShardId) → IsRun words a → IsRun words b → a ≡ b
@@ -71,3 +71,14 @@ reclocks_are_none words remap other operators x shard y =
 pub extends_none : (a : Option History) → Extends a a
 extends_none None = refl
 extends_none (Some h) = (h, refl, record { start = refl; more = []; trail = sym (append-nil h.trail) })
+
+-- where nothing was executed, the store is as it was
+pub spared : {S : Type 0} → (ending : Option Ending) (status : ℕ) (taken taken_now : Option (List ℕ)) (faults faults_now : ℕ)
+    (store now : S) → Finishes ending status taken taken_now faults faults_now → Spares ending store now →
+    (status ≡ 2) ⊎ ((status ≡ 3) ⊎ (status ≡ 4)) → now ≡ store
+spared ending status taken taken_now faults faults_now store now f s (inl two) =
+    subst (λ (e : Option Ending). Spares e store now) (f.no_command two).0 s
+spared ending status taken taken_now faults faults_now store now f s (inr (inl three)) =
+    subst (λ (e : Option Ending). Spares e store now) (f.line three).1 s
+spared ending status taken taken_now faults faults_now store now f s (inr (inr four)) =
+    subst (λ (e : Option Ending). Spares e store now) (f.input four).0 s
