@@ -36,7 +36,7 @@ pub(crate) fn drive_writer<S: Store>(
     requires open { writers.IsOpen writer.old }
     requires sound { writers.IsSound writer.old }
     requires shard { writers.shard_of writer.old ≡ own_shard }
-    requires begun { writer.old.trying.calls ≡ 0 }
+    requires begun { writer.old.storing.trying.calls ≡ 0 }
     requires follows { writes.FollowsWhere 0 (S.history port.old.store) writer.old }
     requires cost { WhereLawful (writers.shard_of writer.old) (S.history port.old.store) (Backwards (writing.CostAt 3 0 writer.old)) }
     ensures told { Goes own_shard (S.history port.old.store) (S.history port.new.store)
