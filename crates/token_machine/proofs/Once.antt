@@ -9,6 +9,7 @@ use Rattle.store_core.specs.declared.shards.ShardId.{ShardId}
 use Rattle.store_core.specs.declared.part_keys.PartKey.{PartKey}
 use Rattle.store_core.specs.declared.calls.Call.TheVariants as calls
 use Rattle.store_core.specs.declared.entries.Entry.{Entry}
+use Rattle.store_core.specs.declared.replies.Reply.{Reply}
 use Rattle.store_core.specs.Histories.{reply}
 use Rattle.store_core.specs.Stores.{Stored}
 use Rattle.store_core.specs.Ports.{Answered}
@@ -33,9 +34,8 @@ use Rattle.history_core.proofs.Logs.{and_true}
 use Rattle.load_core.specs.declared.nexts.Next.{Next}
 use Rattle.load_core.specs.declared.tries.Tried.{Tried}
 use Rattle.load_core.specs.declared.tries.Tried.TheVariants as tries
-use Rattle.load_core.specs.declared.tryings.Trying.{Trying}
 use Rattle.load_core.specs.Attempts.{standing_refusal}
-use Rattle.load_core.specs.Outcomes.{Newest}
+use Rattle.load_core.specs.Outcomes.{Committing, Newest}
 use Rattle.load_core.specs.Runs.{OnlyCarries}
 use Rattle.load_core.specs.Setting as setting
 use Rattle.load_core.specs.Trying as trying
@@ -46,12 +46,12 @@ use Rattle.token_machine.specs.declared.storings.Storing.{Storing}
 use Rattle.token_machine.specs.Following.{FollowsStoring, IsAfter, Lower, UsesToken}
 use Rattle.token_machine.specs.Legality.{IsInNever, IsInOnce, LegalStored, StepAt, StoresAt, StoringMoves}
 use Rattle.token_machine.specs.Outcomes.{stored, token_outcome}
-use Rattle.token_machine.specs.Storings.{sets, sets_before}
+use Rattle.token_machine.specs.Storings.{sets_before}
 use Rattle.token_machine.proofs.Following.{storing_past}
 use Rattle.token_machine.proofs.Members.{joined_owns}
 use Rattle.token_machine.proofs.Reasons.{TokenThere, spends_lower, token_there}
 use Rattle.token_machine.proofs.Spendings.{none_own, none_under, one_under, own_under}
-use Rattle.token_machine.proofs.Ways.{call_false, sets_done, tried_way}
+use Rattle.token_machine.proofs.Ways.{IsTried, call_false, sets_done, tried_way}
 
 -- an answered Scan commits nothing
 pub scan_no_commit : (start : Stored) (shard : ShardId) (e : Entry) (before : List Entry) → IsAnsweredScan shard
@@ -170,77 +170,64 @@ module _ (kind : Kind) (member token : ℕ) (s : Storing) (client : ℕ) (list :
       (among_under start Shard s.trying.step member token at.spends (places client s.trying.calls Before) (past.carry lt)
       (past.after lt) h)
 
+  -- the reply, and a call of the transition which came to an end by it
+  abbrev Answer : Reply
+  Answer = reply (replay_back start Before) e
+
+  abbrev Told : Storing → Tried → Type 0
+  Told new tried = IsTried s Answer new tried
+
+  call : (new : Storing) (tried : Tried) → Told new tried → e.call ≡ trying.call_of s.trying
+  call new tried w = call_false s e.call w.unset at.call_is
+
   -- ---- the commit that was just answered
 
-  pub in_now : (new : Storing) (version : ℕ) → StoringMoves s start e Before new (tries.Committed version) →
-      IsInOnce client s start e Before
-  in_now new version moves = by (tried_way s new (reply (replay_back start Before) e) (tries.Committed version) moves
-      (λ q. let bad : tries.Committed version ≡ tries.Goes = q in cc) (λ q.
-      let bad : tries.Committed version ≡ tries.Fault = q in cc))
+  in_now : (new : Storing) (version : ℕ) → Told new (tries.Committed version) → IsInOnce client s start e Before
+  in_now new version w = record {
+    done = done_by (how_moved s.trying w.to Answer (tries.Committed version) w.moves);
+    stored = past.stored;
+    once = λ lt. inl (
+      c.commit,
+      record {
+        commit = c.commit;
+        number = c.from.number;
+        expected_is = c.expected_is;
+        to = c.carries.to;
+        written = subst (λ (b : List ℕ). version_in Shard (c.from.number + 1) b ≡ Some (c.carries.to, s.trying.step)) c.same numbered;
+        client_is = at.own;
+        lawful = at.lawful;
+        stored = λ k b h. h;
+      },
+      none_before c.from c.last (spends_lower s.trying.step member token c.from c.carries.to at.spends c.applies) lt,
+    );
+  }
     where
-      done_by : (t : Trying) → sets s ≡ false → HowMoved s.trying t (reply (replay_back start Before) e)
-          (tries.Committed version) → setting.IsDone s.setting
-      done_by t unset (scanned vs idle r m) = absurd m
-      done_by t unset (failed idle r bad now) = absurd (let no_fault : tries.Committed version ≡ tries.Fault = bad in cc)
-      done_by t unset (cased rd next m) = sets_done rd s.setting (subst (λ (n : Next).
-          sets_before n s.setting ≡ false) next unset) at.sound.setting
+      c : Committing s.trying w.to start e Before version
+      c = committed_here start list client s.trying w.to e others es at.sound.trying (call new (tries.Committed version) w)
+          at.of_others at.stands lawful at.follows version w.moves
 
-      by : (sets s ≡ false) × ((t : Trying) × trying.Moves s.trying (reply (replay_back start Before) e) t
-          (tries.Committed version) × (new ≡ record { trying = t; setting = s.setting })) → IsInOnce client s start e Before
-      by (unset, (t, m, n)) =
-          let c = committed_here start list client s.trying t e others es at.sound.trying
-          (call_false s e.call unset at.call_is) at.of_others at.stands lawful at.follows version m in
-          let lower = spends_lower s.trying.step member token c.from c.carries.to at.spends c.applies in
-          let numbered : version_in Shard (c.from.number + 1) c.carries.bytes ≡ Some (c.carries.to, s.trying.step) = subst
-          (λ (k : ℕ). version_in Shard k c.carries.bytes ≡ Some (c.carries.to, s.trying.step)) c.number c.carries.carries in
-          record {
-            done = done_by t unset (how_moved s.trying t (reply (replay_back start Before) e) (tries.Committed version) m);
-            stored = past.stored;
-            once = λ lt. inl (
-              c.commit,
-              record {
-                commit = c.commit;
-                number = c.from.number;
-                expected_is = c.expected_is;
-                to = c.carries.to;
-                written = subst (λ (b : List ℕ). version_in Shard (c.from.number + 1) b ≡ Some
-                    (c.carries.to, s.trying.step)) c.same numbered;
-                client_is = at.own;
-                lawful = at.lawful;
-                stored = λ k b h. h;
-              },
-              none_before c.from c.last lower lt,
-            );
-          }
+      numbered : version_in Shard (c.from.number + 1) c.carries.bytes ≡ Some (c.carries.to, s.trying.step)
+      numbered = subst (λ (k : ℕ). version_in Shard k c.carries.bytes ≡ Some (c.carries.to, s.trying.step)) c.number c.carries.carries
+
+      done_by : HowMoved s.trying w.to Answer (tries.Committed version) → setting.IsDone s.setting
+      done_by (scanned vs idle r m) = absurd m
+      done_by (failed idle r bad now) = absurd (let no_fault : tries.Committed version ≡ tries.Fault = bad in cc)
+      done_by (cased rd next m) = sets_done rd s.setting (subst (λ (n : Next). sets_before n s.setting ≡ false) next w.unset)
+          at.sound.setting
 
   -- ---- a refusal
 
-  module _ (new : Storing) (refusal : Refusal) (moves : StoringMoves s start e Before new (tries.Refused refusal)) where
-    tried : (sets s ≡ false) × ((t : Trying) × trying.Moves s.trying (reply (replay_back start Before) e) t
-        (tries.Refused refusal) × (new ≡ record { trying = t; setting = s.setting }))
-    tried = tried_way s new (reply (replay_back start Before) e) (tries.Refused refusal) moves
-        (λ q. let bad : tries.Refused refusal ≡ tries.Goes = q in cc) (λ q.
-        let bad : tries.Refused refusal ≡ tries.Fault = q in cc)
-
+  module _ (new : Storing) (refusal : Refusal) (w : Told new (tries.Refused refusal)) where
     abbrev RefusedBy : Storing → Type 0
     RefusedBy z = Newest s.trying z.trying start e Before (λ state. standing_refusal state s.trying.step ≡ Some refusal)
 
     newest : RefusedBy new
-    newest = by tried
-      where
-        by : (sets s ≡ false) × ((t : Trying) × trying.Moves s.trying (reply (replay_back start Before) e) t
-            (tries.Refused refusal) × (new ≡ record { trying = t; setting = s.setting })) → RefusedBy new
-        by (unset, (t, m, n)) = subst RefusedBy (sym n)
-            (newest_refused start list client s.trying t e others es at.sound.trying
-            (call_false s e.call unset at.call_is) at.of_others at.stands lawful at.follows refusal m)
+    newest = subst RefusedBy (sym w.is) (newest_refused start list client s.trying w.to e others es at.sound.trying
+        (call new (tries.Refused refusal) w) at.of_others at.stands lawful at.follows refusal w.moves)
 
     same_failed : new.trying.failed ≡ false → s.trying.failed ≡ false
-    same_failed fine = by tried
-      where
-        by : (sets s ≡ false) × ((t : Trying) × trying.Moves s.trying (reply (replay_back start Before) e) t
-            (tries.Refused refusal) × (new ≡ record { trying = t; setting = s.setting })) → s.trying.failed ≡ false
-        by (unset, (t, m, n)) = (moves_same s.trying t (reply (replay_back start Before) e) (tries.Refused refusal) m).failed
-            (sym (ap (λ (z : Storing). z.trying.failed) n) ∙ fine)
+    same_failed fine = (moves_same s.trying w.to Answer (tries.Refused refusal) w.moves).failed
+        (sym (ap (λ (z : Storing). z.trying.failed) w.is) ∙ fine)
 
     -- where the token isn't spent none of the command's entries has committed
     never_in : Lower member token newest.state → IsInNever client s start e Before
@@ -281,18 +268,18 @@ module _ (kind : Kind) (member token : ℕ) (s : Storing) (client : ℕ) (list :
         none_own start Shard member token client (length Own) Before (past.unspent (same_failed fine))
         (one_under start Shard list at.stands client member token Before lawful owned newest.state.number newest.state newest.last at.some_token (subst (λ (t : ℕ). Stands member (λ m. m.token ≡ t) newest.state.members) same there.stands))
 
-  refused_legal : (new : Storing) (refusal : Refusal) → StoringMoves s start e Before new (tries.Refused refusal) →
+  refused_legal : (new : Storing) (refusal : Refusal) → Told new (tries.Refused refusal) →
       LegalStored client member token s new start e Before (token_outcome new.trying.failed token refusal)
-  refused_legal new (refusals.TokenOld last) moves =
-      let n = newest new (refusals.TokenOld last) moves in
+  refused_legal new (refusals.TokenOld last) w =
+      let n = newest new (refusals.TokenOld last) w in
       let there = token_there n.state member token last s.trying.step at.spends n.so in
       elim (bool_cases ((last == token) && new.trying.failed)) [
-        | inl both ↦ rw both (in_before new (refusals.TokenOld last) moves
+        | inl both ↦ rw both (in_before new (refusals.TokenOld last) w
             (subst (λ (k : ℕ). Stands member (λ m. m.token ≡ k) n.state.members)
             (eqb-true last token (and_true (last == token) new.trying.failed both).0) there.stands))
-        | inr other ↦ absurd (never_ahead new (refusals.TokenOld last) moves last there other)
+        | inr other ↦ absurd (never_ahead new (refusals.TokenOld last) w last there other)
       ]
-  refused_legal new other moves = (newest new other moves, λ h. h, never_in new other moves)
+  refused_legal new other w = (newest new other w, λ h. h, never_in new other w)
 
   -- ---- each outcome
 
@@ -300,26 +287,19 @@ module _ (kind : Kind) (member token : ℕ) (s : Storing) (client : ℕ) (list :
   SpentBy z = Newest s.trying z.trying start e Before (λ state. (standing_refusal state s.trying.step ≡ None) ×
       (state.number ≡ most))
 
+  spent_legal : (new : Storing) → Told new tries.Spent → SpentBy new
+  spent_legal new w = subst SpentBy (sym w.is) (newest_spent start list client s.trying w.to e others es at.sound.trying
+      (call new tries.Spent w) at.of_others at.stands lawful at.follows w.moves)
+
   pub legal : (new : Storing) (tried : Tried) → StoringMoves s start e Before new tried →
       LegalStored client member token s new start e Before (stored new.trying.failed token tried)
-  legal new (tries.Committed version) moves = in_now new version moves
   legal new tries.Begun moves = tt
   legal new tries.Again moves = tt
   legal new tries.Goes moves = tt
   legal new tries.Fault moves = tt
-  legal new (tries.Refused refusal) moves = refused_legal new refusal moves
-  legal new tries.Spent moves = by (tried_way s new (reply (replay_back start Before) e) tries.Spent moves
-      (λ q. let bad : tries.Spent ≡ tries.Goes = q in cc) (λ q. let bad : tries.Spent ≡ tries.Fault = q in cc))
-    where
-      by : (sets s ≡ false) × ((t : Trying) × trying.Moves s.trying (reply (replay_back start Before) e) t tries.Spent ×
-          (new ≡ record { trying = t; setting = s.setting })) → SpentBy new
-      by (unset, (t, m, n)) = subst SpentBy (sym n) (newest_spent start list client s.trying t e others es at.sound.trying
-          (call_false s e.call unset at.call_is) at.of_others at.stands lawful at.follows m)
-  legal new (tries.Damaged damage) moves = by (tried_way s new (reply (replay_back start Before) e)
-      (tries.Damaged damage) moves (λ q. let bad : tries.Damaged damage ≡ tries.Goes = q in cc)
-      (λ q. let bad : tries.Damaged damage ≡ tries.Fault = q in cc))
-    where
-      by : (sets s ≡ false) × ((t : Trying) × trying.Moves s.trying (reply (replay_back start Before) e) t
-          (tries.Damaged damage) × (new ≡ record { trying = t; setting = s.setting })) → ⊥
-      by (unset, (t, m, n)) = never_damaged start list client s.trying t e others es at.sound.trying
-          (call_false s e.call unset at.call_is) at.of_others at.stands lawful at.follows damage m
+  legal new (tries.Committed version) moves = in_now new version (tried_way s new Answer (tries.Committed version) moves tt)
+  legal new (tries.Refused refusal) moves = refused_legal new refusal (tried_way s new Answer (tries.Refused refusal) moves tt)
+  legal new tries.Spent moves = spent_legal new (tried_way s new Answer tries.Spent moves tt)
+  legal new (tries.Damaged damage) moves = let w = tried_way s new Answer (tries.Damaged damage) moves tt in
+      never_damaged start list client s.trying w.to e others es at.sound.trying (call new (tries.Damaged damage) w)
+      at.of_others at.stands lawful at.follows damage w.moves

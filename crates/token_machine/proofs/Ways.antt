@@ -1,6 +1,6 @@
 -- The two ways of a reply, and what it leaves.
 use Rattle.std.proofs.Common.{◌≡◌, ◌<◌, ◌≤◌, ℕ, true, false, Some, List, length, inl, inr, refl, sym, ap, subst, ◌∙◌, arith}
-use Rattle.std.specs.Prelude.{IsSome, nat_lt}
+use Rattle.std.specs.Prelude.{⊤, IsSome, nat_lt}
 use Rattle.std.proofs.lemmas.Bool.Decides.{nat_tests}
 use Rattle.store_core.specs.declared.calls.Call.{Call}
 use Rattle.store_core.specs.declared.replies.Reply.{Reply}
@@ -202,20 +202,32 @@ shown_stop s new call r tried call_is moves stop = by (way s new r tried moves)
     by (try h (t, m, n)) = subst (λ (c : Call). IsShown s.trying.loader.shard c r) (sym (call_false s call h call_is))
         (stop_shown s.trying t r tried stop m)
 
--- what is answered for a try is a try
-pub tried_way : (s new : Storing) (r : Reply) (tried : Tried) → Moves s r new tried → (tried ≡ tries.Goes → ⊥) →
-    (tried ≡ tries.Fault → ⊥) →
-    (sets s ≡ false) × ((t : Trying) × trying.Moves s.trying r t tried × (new ≡ record { trying = t; setting = s.setting }))
-tried_way s new r tried moves no_part no_fault = by (way s new r tried moves)
+-- the command ends
+abbrev pub IsEnding : Tried → Type 0
+IsEnding (tries.Committed version) = ⊤
+IsEnding (tries.Refused refusal) = ⊤
+IsEnding tries.Spent = ⊤
+IsEnding (tries.Damaged damage) = ⊤
+IsEnding other = ⊥
+
+-- a call of the transition came to it
+pub record IsTried (s : Storing) (r : Reply) (new : Storing) (tried : Tried) : Type 0 where
+  pub unset : sets s ≡ false
+  pub to : Trying
+  pub moves : trying.Moves s.trying r to tried
+  pub is : new ≡ record { trying = to; setting = s.setting }
+
+-- which it is where the command ends
+pub tried_way : (s new : Storing) (r : Reply) (tried : Tried) → Moves s r new tried → IsEnding tried → IsTried s r new tried
+tried_way s new r tried moves ending = by (way s new r tried moves)
   where
     none : SetWay r tried → ⊥
-    none (goes is stored) = no_part is
-    none (fails is failed) = no_fault is
+    none (goes is stored) = subst IsEnding is ending
+    none (fails is failed) = subst IsEnding is ending
 
-    by : Way s r new tried → (sets s ≡ false) × ((t : Trying) × trying.Moves s.trying r t tried ×
-        (new ≡ record { trying = t; setting = s.setting }))
+    by : Way s r new tried → IsTried s r new tried
     by (set h m) = absurd (none (set_way s new r tried m))
-    by (try h m) = (h, m)
+    by (try h (t, m, n)) = record { unset = h; to = t; moves = m; is = n }
 
 -- ---- preparing
 
