@@ -1,7 +1,12 @@
+pub mod Costs
+pub mod FollowsOn
 pub mod HowRead
+pub mod Legality
 pub mod Moving
 pub mod PartWeights
+pub mod Parts
 pub mod Places
+pub mod Since
 pub mod Sound
 pub mod Stretch
 pub mod Undamaged
