@@ -75,3 +75,5 @@ pub mod Committed
 pub mod Answering
 pub mod SameCalls
 pub mod TakenLaws
+pub mod WorkedUpkeep
+pub mod Deleting

@@ -173,13 +173,7 @@ one_read list start shard member listen ps (asks.Listen as_of) is a b h g =
 one_read list start shard member None ps asks.Next is a b h g = absurd h
 one_read list start shard member (Some f) ps asks.Next is a b h g =
     one_given list start shard member _ a b ps (step_given list start shard member ps f a h) (step_given list start shard member ps f b g)
-one_read list start shard member listen ps (asks.OpenWriter d) is a b h g = absurd is
-one_read list start shard member listen ps (asks.OpenReader d now lease) is a b h g = absurd is
-one_read list start shard member listen ps (asks.Append rows expected new) is a b h g = absurd is
-one_read list start shard member listen ps asks.CloseWriter is a b h g = absurd is
-one_read list start shard member listen ps (asks.Advance to) is a b h g = absurd is
-one_read list start shard member listen ps (asks.RenewReader now) is a b h g = absurd is
-one_read list start shard member listen ps asks.CloseReader is a b h g = absurd is
+one_read list start shard member listen ps other is a b h g = absurd is
 
 pub read_law : OneReadAnswer
 read_law list h c is a b legal_a legal_b = go c.asked is legal_a legal_b
@@ -195,10 +189,4 @@ read_law list h c is a b legal_a legal_b = go c.asked is legal_a legal_b
     go (asks.Snapshot t) r p q = some c.member (asks.Snapshot t) r p q
     go (asks.Listen as_of) r p q = some c.member (asks.Listen as_of) r p q
     go asks.Next r p q = some c.member asks.Next r p q
-    go (asks.OpenWriter d) r p q = absurd r
-    go (asks.OpenReader d now lease) r p q = absurd r
-    go (asks.Append rows expected new) r p q = absurd r
-    go asks.CloseWriter r p q = absurd r
-    go (asks.Advance to) r p q = absurd r
-    go (asks.RenewReader now) r p q = absurd r
-    go asks.CloseReader r p q = absurd r
+    go other r p q = absurd r

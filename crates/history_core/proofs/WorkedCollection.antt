@@ -36,7 +36,7 @@ there n true b f e = (f refl, cc)
 there n false b f e = absurd (let g : None ≡ Some b = e in cc)
 
 -- version 8 alone is there
-only_eight : (n : ℕ) (b : List ℕ) → version_at ((store_after worked).logs the_shard) n ≡ Some b → (n ≡ 8) × (b ≡ version8)
+pub only_eight : (n : ℕ) (b : List ℕ) → version_at ((store_after worked).logs the_shard) n ≡ Some b → (n ≡ 8) × (b ≡ version8)
 only_eight n b e = there n (n == 8) b (eight n) e
 
 was : (n : ℕ) (c : Bool) (s : ShardState) (x : Transition) → (c ≡ true → n ≡ 8) →

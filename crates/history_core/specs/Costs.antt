@@ -9,6 +9,7 @@ use Rattle.store_core.specs.Changes.{commits}
 use Rattle.store_core.specs.Stores.{Stored}
 use Rattle.store_core.specs.Histories.{faults_of}
 use Rattle.store_core.specs.Newest.{replay_back}
+use Rattle.spine_core.specs.declared.batches.Batch.{Batch}
 use Rattle.state_core.specs.States.{ShardState}
 use Rattle.history_core.specs.Histories.{same_shard, took_effect}
 use Rattle.history_core.specs.Legal.{snapshot_keys, step_keys}
@@ -45,11 +46,11 @@ commits_among start shard (e ∷ others) es =
 abbrev pub Within : ℕ → ℕ → ℕ → ℕ → ℕ → Type 0
 Within made remaining base foreign failed = made + remaining ≤ base + 2 * (foreign + failed)
 
--- the same of a command that commits nothing: one for each failed call
+-- the same of a command that commits nothing, a snapshot, a listen or a collection: one for each failed call
 abbrev pub WithinReads : ℕ → ℕ → ℕ → ℕ → Type 0
 WithinReads made remaining base failed = made + remaining ≤ base + failed
 
--- the base of an open, a close, a renew and an advance
+-- the base of an open, a close, a renew, an advance and an expiry
 abbrev pub change_base : ℕ
 change_base = 3
 
@@ -68,3 +69,15 @@ snapshot_parts t s = length (snapshot_keys t s)
 -- how many parts a step of a listen from a frontier reads of a state
 abbrev pub step_parts : Option ℕ → ShardState → ℕ
 step_parts f s = length (step_keys f s)
+
+-- the base of a merge that gets so many parts and sets so many
+abbrev pub merge_base : ℕ → ℕ → ℕ
+merge_base got set = got + set + 2
+
+-- how many parts a merge of two batches gets
+abbrev pub merge_parts : Batch → Batch → ℕ
+merge_parts left right = length (left.parts ++ right.parts)
+
+-- the base of a collection of so many taken keys
+abbrev pub collect_base : ℕ → ℕ
+collect_base keys = keys + 2

@@ -1,5 +1,5 @@
 -- What lasts along a lawful history, whatever its clients do.
-use Rattle.std.specs.Prelude.{◌≡◌, ℕ, ◌≤◌, List, Some}
+use Rattle.std.specs.Prelude.{◌≡◌, ℕ, ◌≤◌, List, Some, None}
 use Rattle.update_core.specs.declared.updates.Update.{Update}
 use Rattle.store_core.specs.declared.shards.ShardId.{ShardId}
 use Rattle.store_core.specs.declared.part_keys.PartKey.{PartKey}
@@ -9,7 +9,7 @@ use Rattle.store_core.specs.Ports.{with_entries}
 use Rattle.state_core.specs.States.{ShardState, Names}
 use Rattle.state_core.specs.VersionReading.{version_in}
 use Rattle.history_core.specs.Histories.{Shows}
-use Rattle.history_core.specs.Discipline.{ShowsState, Owns, TakesIn, Lawful}
+use Rattle.history_core.specs.Discipline.{ShowsState, Owns, TakesIn, DeletedBy, Lawful}
 use Rattle.history_core.specs.Stands.{StandsFor}
 use Rattle.history_core.specs.Answers.{own_of}
 
@@ -38,3 +38,9 @@ BytesLast =
     (shard : ShardId) (list : List Update) (h : History) (later : List Entry) → StandsFor h.start shard list →
     Lawful (with_entries h later) → (k : PartKey) (a b : List ℕ) → k.shard ≡ shard → (store_after h).blobs k ≡ Some a →
     (store_after (with_entries h later)).blobs k ≡ Some b → a ≡ b
+
+-- What a client's Delete was answered for is absent from then on.
+abbrev pub DeletedStays : Type 0
+DeletedStays =
+    (shard : ShardId) (list : List Update) (h : History) → StandsFor h.start shard list → Lawful h →
+    (c : ℕ) (k : PartKey) → k.shard ≡ shard → DeletedBy (own_of h c) k → (store_after h).blobs k ≡ None

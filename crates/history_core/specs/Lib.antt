@@ -18,8 +18,10 @@ pub mod Members
 pub mod Lasting
 pub mod Placing
 pub mod Legal
+pub mod Upkeep
 pub mod Costs
 pub mod AnswerLaws
 pub mod WorkedAnswers
 pub mod StretchLaws
 pub mod TakenAfterAll
+pub mod WorkedUpkeep

@@ -45,4 +45,24 @@ pub enum Asked {
     },
     /// The reader leaves.
     CloseReader,
+    /// A compactor joins the shard at the moment `now`; its lease runs out at `now + lease` unless it is renewed.
+    OpenCompactor {
+        shard: ShardId,
+        now: u64,
+        lease: u64,
+    },
+    /// The leftmost pair of batches that is due is merged.
+    Merge,
+    /// The compactor's lease begins again at the moment `now`.
+    RenewCompactor {
+        now: u64,
+    },
+    /// The compactor leaves.
+    CloseCompactor,
+    /// The versions below the floor, and the parts that merges up to it took, are removed.
+    Collect,
+    /// The members whose lease has run out at the moment `now` are removed.
+    Expire {
+        now: u64,
+    },
 }

@@ -1,5 +1,5 @@
 // Laws of what lasts along a lawful history, each the contract of a function that does nothing.
-ghost use Rattle.history_core.specs.Lasting.{BytesLast, NumberOnce, OneOwner, TakenGone};
+ghost use Rattle.history_core.specs.Lasting.{BytesLast, DeletedStays, NumberOnce, OneOwner, TakenGone};
 
 /// A number never has two versions.
 pub fn number_once()
@@ -19,4 +19,9 @@ pub fn taken_gone()
 /// The bytes under a key never change.
 pub fn bytes_last()
     ensures { BytesLast }
+{}
+
+/// A key that a client deleted, and was answered so, stays absent.
+pub fn deleted_stays()
+    ensures { DeletedStays }
 {}

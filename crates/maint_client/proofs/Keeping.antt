@@ -9,14 +9,15 @@ use Rattle.state_core.specs.States.{ShardState}
 use Rattle.state_core.specs.Steps.{is_out}
 use Rattle.state_core.proofs.ListLemmas.{bool_cases}
 use Rattle.history_core.specs.Placing.{CommittedAs, placed}
+use Rattle.history_core.specs.Upkeep.{LegalExpiry}
 use Rattle.load_core.specs.Attempts.{standing_refusal}
 use Rattle.machine_core.specs.Machines.{Ending, Keeps}
 use Rattle.try_machine.specs.Rules.{IsRule}
 use Rattle.try_machine.proofs.Keeping as tryers
-use Rattle.maint_client.specs.declared.expire_answers.ExpireAnswer.{ExpireAnswer}
-use Rattle.maint_client.specs.declared.expire_answers.ExpireAnswer.TheVariants as answers
+use Rattle.history_core.specs.declared.expire_answers.ExpireAnswer.{ExpireAnswer}
+use Rattle.history_core.specs.declared.expire_answers.ExpireAnswer.TheVariants as answers
 use Rattle.maint_client.specs.declared.expiries.Expiry.{Expiry}
-use Rattle.maint_client.specs.Expiring.{LegalExpire, expiring, machine, number_of, out_of}
+use Rattle.maint_client.specs.Expiring.{expiring, machine, moment_of, number_of, out_of}
 
 -- an expiry is refused only where no lease has run out
 none_due : (now : ℕ) (s : ShardState) (refusal : Refusal) → standing_refusal s (Expire now) ≡ Some refusal →
@@ -39,7 +40,7 @@ rule = record {
   knows_on = λ now shard o own k. tt;
   committed = λ r t new client list start e others es version ps at k. inl (
     (version, subst (λ (x : Transition). CommittedAs start t.loader.shard x version (placed e (others ++ es))) at.step_is k.carries),
-    (k.from.number, k.from, k.last, ap (out_of r.now) k.from_is),
+    (k.from.number, k.from, k.last, ap (out_of (moment_of r.asked)) k.from_is),
   );
   refused = λ r t new client list start e others es refusal ps at k. inl (
     k.scan,
@@ -49,13 +50,13 @@ rule = record {
       k.last,
       (
         ap number_of (sym k.cached),
-        none_due r.now k.state refusal
+        none_due (moment_of r.asked) k.state refusal
             (subst (λ (x : Transition). standing_refusal k.state x ≡ Some refusal) at.step_is k.so),
       ),
     ),
   );
   empty = λ r shard start e before answer ps is scan nothing. subst
-      (λ (a : ExpireAnswer). LegalExpire r.now shard start (placed e before ∷ ps) a) (let same : answers.NoneDue 0 ≡ answer = cc in same) (inl (scan, inl (refl, nothing)));
+      (λ (a : ExpireAnswer). LegalExpiry (moment_of r.asked) shard start (placed e before ∷ ps) a) (let same : answers.NoneDue 0 ≡ answer = cc in same) (inl (scan, inl (refl, nothing)));
 }
 
 pub keeps : Keeps machine

@@ -1,16 +1,16 @@
 // Expirer: a client that removes the members whose lease has run out.
-ghost use Rattle.std.specs.Prelude.{◌≡◌, ◌≢◌, ◌<◌, ◌≤◌, ℕ, Option, Ok, Err, None, Some, IsSome, IfOk, OnErr, OnOk, is_some};
+ghost use Rattle.std.specs.Prelude.{◌≡◌, ◌≢◌, ◌<◌, ◌≤◌, ℕ, Option, Ok, Err, None, Some, IsSome, IfOk, OnErr, OnOk, is_some, option_copied};
 ghost use Rattle.causes.specs.Causes.{Rose};
 ghost use Rattle.store_core.specs.Histories.{History};
 ghost use Rattle.load_core.specs.declared.polls.Poll.TheVariants as polls;
 ghost use Rattle.load_core.specs.Fronts.{Backwards, WhereLawful};
 ghost use Rattle.machine_core.specs.Polling.{CostGoesOn, FollowsWhere, LegalWhere, Polled, Unpolled};
 ghost use Rattle.try_machine.specs.Tryers.{IsSound};
-ghost use Rattle.maint_client.specs.Expiring.{Begins, expiring, machine};
+ghost use Rattle.maint_client.specs.Expiring.{Begins, asked_of, expiring, machine};
 
-use crate::expire_answers::ExpireAnswer;
 use crate::expiries::Expiry;
 use causes::NumberList;
+use history_core::{Asked, ExpireAnswer};
 use load_core::{BeginFault, Poll};
 use state_core::Transition;
 use std::alloc::{AllocError, Global};
@@ -45,6 +45,16 @@ impl Expirer {
         self.tryer.asked.is_some()
     }
 
+    /// What is asked, where an expiry is open.
+    pub fn asked(&self) -> Option<&Asked>
+        ensures { option_copied result ≡ asked_of self.now.tryer }
+    {
+        match &self.tryer.asked {
+            Some(expiry) => Some(&expiry.asked),
+            None => None,
+        }
+    }
+
     /// How many calls of the store the polls of the open expiry have made, or else those of the last one. It stands still at
     /// 2^64 - 1.
     pub fn calls(&self) -> u64
@@ -68,7 +78,7 @@ impl Expirer {
             return Err(BeginFault::Open);
         }
         let asked = Expiry {
-            now,
+            asked: Asked::Expire { now },
             out: NumberList::new(alloc),
         };
         self.tryer.begin(asked, Transition::Expire { now });

@@ -1,9 +1,10 @@
 // Expiry: what an expiry asks, as a rule.
 ghost use Rattle.std.specs.Prelude.{◌≡◌, IfOk, option_copied};
-ghost use Rattle.maint_client.specs.Expiring.{expiring, number_of, out_numbers, out_of};
+ghost use Rattle.history_core.specs.Upkeep.{out_numbers};
+ghost use Rattle.maint_client.specs.Expiring.{expiring, moment_of, number_of, out_of};
 
-use crate::expire_answers::ExpireAnswer;
 use causes::NumberList;
+use history_core::{Asked, ExpireAnswer};
 use load_core::Poll;
 use state_core::{Member, Refusal, State};
 use std::alloc::{AllocError, Global};
@@ -12,10 +13,22 @@ use try_machine::Rule;
 /// An expiry at a moment, with the numbers of the members that it removes from the newest state.
 #[derive(Drop)]
 pub struct Expiry {
-    /// The moment, in the unit of the members' beats and leases.
-    pub now: u64,
+    /// What is asked: `Asked::Expire` with the moment, in the unit of the members' beats and leases.
+    pub asked: Asked,
     /// The numbers of the members whose lease has run out in the newest state, once the next call is prepared.
     pub out: NumberList,
+}
+
+impl Expiry {
+    // The moment.
+    fn moment(&self) -> u64
+        ensures { result ≡ moment_of self.now.asked }
+    {
+        match &self.asked {
+            Asked::Expire { now } => *now,
+            _ => 0,
+        }
+    }
 }
 
 // The numbers of the members whose lease has run out in the newest state.
@@ -47,8 +60,10 @@ impl Rule for Expiry {
     ghost rule = { expiring };
 
     fn look(&self, alloc: Global, newest: Option<&State>) -> Result<Expiry, AllocError> {
-        let out = out_of(alloc, self.now, newest)?;
-        Ok(Expiry { now: self.now, out })
+        let now = self.moment();
+        let out = out_of(alloc, now, newest)?;
+        let asked = Asked::Expire { now };
+        Ok(Expiry { asked, out })
     }
 
     fn empty(&self) -> Option<ExpireAnswer> {

@@ -213,9 +213,7 @@ makes_first r call s is_open e = go (question r) refl
         of (Some (asks.Advance to)) o k = known none r.member s.known (some_member r.member (λ member. r.trying.step ≡ Advance member to) k)
         of (Some (asks.RenewReader now)) o k = known none r.member s.known (some_member r.member (λ member. r.trying.step ≡ Renew member now) k)
         of (Some asks.CloseReader) o k = known none r.member s.known (some_member r.member (λ member. r.trying.step ≡ Leave member) k)
-        of (Some (asks.OpenWriter shard)) o k = absurd k
-        of (Some (asks.Append rows expected new)) o k = absurd k
-        of (Some asks.CloseWriter) o k = absurd k
+        of (Some other) o k = absurd k
 
     go : (q : Option Question) → question r ≡ q → MakesFirst (Opens r.asked) (shard_of r) call
     go None none =
@@ -257,9 +255,7 @@ steps_free r is_open s none own = go r.asked s.asked is_open none
     go (Some (asks.Snapshot t)) h o e = absurd (let bad : Some (questions.Content t) ≡ None = e in cc)
     go (Some (asks.Listen as_of)) h o e = listens r.listen e (some_listens r.listen (after as_of) h.1)
     go (Some asks.Next) h o e = listens r.listen e h.1
-    go (Some (asks.OpenWriter shard)) h o e = absurd h
-    go (Some (asks.Append rows expected new)) h o e = absurd h
-    go (Some asks.CloseWriter) h o e = absurd h
+    go (Some other) h o e = absurd h
 
 holds_next : (next : Next) (x : Transition) (own : List Answered) → Holds own x → HoldsNext next x own
 holds_next nexts.Attempt x own h = tt

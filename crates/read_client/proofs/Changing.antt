@@ -49,9 +49,7 @@ changed r (asks.Listen as_of) none h = absurd (
 changed r asks.Next none h = absurd (
     let (g, is) = is_there r.listen h.1 in
     let bad : Some (questions.Step g) ≡ None = sym (ap step_question is) ∙ none in cc)
-changed r (asks.OpenWriter shard) none h = absurd h
-changed r (asks.Append rows expected end) none h = absurd h
-changed r asks.CloseWriter none h = absurd h
+changed r other none h = absurd h
 
 join_change : (member now lease : ℕ) → IsChange AsReader member (Join AsReader now lease)
 join_change member now lease = record { changes = refl; shaped = λ s. refl }

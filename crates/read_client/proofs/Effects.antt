@@ -141,26 +141,12 @@ module _ (shard : ShardId) (tried_step : Transition) (call : Call) (reply : Repl
   in_effect : (asked : Asked) (version : ℕ) → CommitsStep shard tried_step call reply → Commits (polls.Done (in_answer asked version))
   in_effect (asks.Advance to) version n = n
   in_effect (asks.RenewReader now) version n = n
-  in_effect (asks.OpenReader at_shard now lease) version n = inl n
-  in_effect (asks.OpenWriter at_shard) version n = inl n
-  in_effect (asks.Append rows expected new) version n = inl n
-  in_effect asks.CloseWriter version n = inl n
-  in_effect (asks.Snapshot t) version n = inl n
-  in_effect (asks.Listen as_of) version n = inl n
-  in_effect asks.Next version n = inl n
-  in_effect asks.CloseReader version n = inl n
+  in_effect _ version n = inl n
 
   gone_did : (asked : Asked) (version : ℕ) → CommitsNone reply → Commits (polls.Done (gone_answer asked version))
   gone_did (asks.Advance to) version n = n
   gone_did (asks.RenewReader now) version n = n
-  gone_did (asks.OpenReader at_shard now lease) version n = inr n
-  gone_did (asks.OpenWriter at_shard) version n = inr n
-  gone_did (asks.Append rows expected new) version n = inr n
-  gone_did asks.CloseWriter version n = inr n
-  gone_did (asks.Snapshot t) version n = inr n
-  gone_did (asks.Listen as_of) version n = inr n
-  gone_did asks.Next version n = inr n
-  gone_did asks.CloseReader version n = inr n
+  gone_did _ version n = inr n
 
   -- what a change has committed
   change_did : (r : Reader) (asked : Asked) (o : Outcome) → ChangeEffect shard tried_step call reply o → Commits (change_poll r asked o)

@@ -211,16 +211,9 @@ missing_opens : (r : Reader) (key : PartKey) → opened_of (missing_poll r key) 
 missing_opens r key = either_opens (is_gone (own_member r) r.trying.loader.cached) (expired r) (polls.Damaged (damages.Missing key)) refl refl
 
 gone_opens : (asked : Asked) (version : ℕ) → opened_of (polls.Done (gone_answer asked version)) ≡ None
-gone_opens (asks.OpenReader shard now lease) version = refl
 gone_opens (asks.Advance to) version = refl
 gone_opens (asks.RenewReader now) version = refl
-gone_opens (asks.OpenWriter shard) version = refl
-gone_opens (asks.Append rows expected new) version = refl
-gone_opens asks.CloseWriter version = refl
-gone_opens (asks.Snapshot t) version = refl
-gone_opens (asks.Listen as_of) version = refl
-gone_opens asks.Next version = refl
-gone_opens asks.CloseReader version = refl
+gone_opens _ version = refl
 
 refused_opens : (r : Reader) (asked : Asked) (refusal : Refusal) → opened_of (verdict r asked (tries.Refused refusal)) ≡ None
 refused_opens r asked refusal = refused_as (λ o. opened_of (change_poll r asked o) ≡ None) r.trying.loader.cached (own_member r) r.trying.step refusal refl

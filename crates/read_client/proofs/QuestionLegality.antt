@@ -106,13 +106,7 @@ module _ (client : ℕ) (r : Reader) (list : List Update) (start : Stored) (e : 
             (subst (λ (l : Option (Option ℕ)). IsSomeAnd l (λ g. LegalStep list start (shard_of r) member ps g answer)) (sym there) legal2),
         reads_step f asks.Next answer legal2 reads2,
       )
-  question_done q (asks.OpenWriter shard) same h answer (legal, reads) = absurd h
-  question_done q (asks.OpenReader shard now lease) same h answer (legal, reads) = absurd (let bad : None ≡ Some q = same in cc)
-  question_done q (asks.Append rows expected end) same h answer (legal, reads) = absurd h
-  question_done q asks.CloseWriter same h answer (legal, reads) = absurd h
-  question_done q (asks.Advance to) same h answer (legal, reads) = absurd (let bad : None ≡ Some q = same in cc)
-  question_done q (asks.RenewReader now) same h answer (legal, reads) = absurd (let bad : None ≡ Some q = same in cc)
-  question_done q asks.CloseReader same h answer (legal, reads) = absurd (let bad : None ≡ Some q = same in cc)
+  question_done q other same h answer (legal, reads) = absurd (let bad : None ≡ Some q = same in cc)
 
   -- ---- at the last answered Scan, where the member stands
 

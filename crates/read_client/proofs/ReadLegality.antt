@@ -478,13 +478,7 @@ member_there : (r : Reader) (a : Asked) (q : Question) → question_of (Some a) 
 member_there r (asks.Snapshot t) q h k = k
 member_there r (asks.Listen as_of) q h k = k.0
 member_there r asks.Next q h k = k.0
-member_there r (asks.OpenWriter shard) q h k = absurd k
-member_there r (asks.OpenReader shard now lease) q h k = absurd (let bad : None ≡ Some q = h in cc)
-member_there r (asks.Append appended expected end) q h k = absurd k
-member_there r asks.CloseWriter q h k = absurd k
-member_there r (asks.Advance to) q h k = absurd (let bad : None ≡ Some q = h in cc)
-member_there r (asks.RenewReader now) q h k = absurd (let bad : None ≡ Some q = h in cc)
-member_there r asks.CloseReader q h k = absurd (let bad : None ≡ Some q = h in cc)
+member_there r other q h k = absurd (let bad : None ≡ Some q = h in cc)
 
 -- each poll of a question is legal
 pub read_legal : (client : ℕ) (r new : Reader) (poll : Poll ReadAnswer) (list : List Update) (start : Stored) (e : Entry) (others es : List Entry) → IsSound r → Follows client r start es → e.client ≡ client →

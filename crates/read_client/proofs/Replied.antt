@@ -67,16 +67,9 @@ goes_answered ready new r m failed = go (question ready) (subst (λ (q : Reply).
     go (Some q) h = told (counted ready) q ready.stage h
 
 change_goes : (asked : Asked) (version : ℕ) → IsRefusal (polls.Done (in_answer asked version)) → ⊥
-change_goes (asks.OpenReader shard now lease) version h = h
 change_goes (asks.Advance to) version h = h
 change_goes (asks.RenewReader now) version h = h
-change_goes asks.CloseReader version h = h
-change_goes (asks.Snapshot t) version h = h
-change_goes (asks.Listen as_of) version h = h
-change_goes asks.Next version h = h
-change_goes (asks.OpenWriter shard) version h = h
-change_goes (asks.Append rows expected new) version h = h
-change_goes asks.CloseWriter version h = h
+change_goes _ version h = h
 
 refused_stop : (w : Reader) (asked : Asked) (tried : Tried) → IsRefusal (verdict w asked tried) → IsStop tried
 refused_stop w asked (tries.Committed version) h = absurd (committed_as (λ o. IsRefusal (change_poll w asked o) → ⊥) w.trying.loader.cached w.trying.step version (λ k. k)

@@ -62,10 +62,4 @@ module _ (client : ℕ) (w : Writer) (list : List Update) (start : Stored) (e : 
   asked_changes (asks.OpenWriter shard) other is = open_changes is.2
   asked_changes asks.CloseWriter other is = close_changes w.member refl is.0
   asked_changes (asks.Append rows expected new) other is = absurd (let bad : true ≡ false = other in cc)
-  asked_changes (asks.OpenReader shard now lease) other is = absurd is
-  asked_changes (asks.Snapshot t) other is = absurd is
-  asked_changes (asks.Listen as_of) other is = absurd is
-  asked_changes asks.Next other is = absurd is
-  asked_changes (asks.Advance to) other is = absurd is
-  asked_changes (asks.RenewReader now) other is = absurd is
-  asked_changes asks.CloseReader other is = absurd is
+  asked_changes another other is = absurd is

@@ -1,5 +1,5 @@
 use Rattle.std.proofs.Common.{◌≡◌, ◌++◌, drop}
-use Rattle.maint_client.specs.Expiring.{out_numbers}
+use Rattle.history_core.specs.Upkeep.{out_numbers}
 use Rattle.maint_client.proofs.expiries.out_numbers.Given as goal
 
 abbrev pub invariant-loop-member : goal.invariant-loop-member

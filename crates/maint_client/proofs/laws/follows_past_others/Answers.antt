@@ -1,6 +1,6 @@
 use Rattle.machine_core.proofs.Polls.{others_where}
 use Rattle.try_machine.specs.declared.tryers.Tryer.{Tryer}
-use Rattle.maint_client.specs.declared.expire_answers.ExpireAnswer.{ExpireAnswer}
+use Rattle.history_core.specs.declared.expire_answers.ExpireAnswer.{ExpireAnswer}
 use Rattle.maint_client.specs.declared.expiries.Expiry.{Expiry}
 use Rattle.maint_client.specs.Expiring.{machine}
 use Rattle.maint_client.proofs.Keeping.{keeps}
