@@ -55,6 +55,13 @@ failed_get store k Took h = absurd (let bad : replies.Bytes _ ≡ replies.Failed
 failed_get store k FailedTook h = refl
 failed_get store k FailedLost h = refl
 
+-- the bound after a poll, by what it comes to
+abbrev pub CostAfter : {A : Type 0} → ℕ → Course → List Entry → Course → Poll A → Type 0
+CostAfter client c es new polls.Busy = new.calls < most → ReadCost client new new.stage es
+CostAfter client c es new polls.More = new.calls < most → ReadCost client new new.stage es
+CostAfter client c es new polls.Fault = new.calls < most → ReadCost client new new.stage es
+CostAfter client c es new _ = new.calls < most → OverStage client new c.stage es
+
 module _ {Q A : Type 0} (W : Questions Q A) (client : ℕ) (c : Course) (q : Q) (start : Stored) (e : Entry) (others es : List Entry)
     (call_is : read_call c c.stage ≡ Some e.call) (own : e.client ≡ client) (of : OfOthers client others)
     (left : c.stage ≡ stages.Get → getting.IsOpen c.getting) (at : c.calls < most → ReadCost client c c.stage es) where
@@ -67,12 +74,8 @@ module _ {Q A : Type 0} (W : Questions Q A) (client : ℕ) (c : Course) (q : Q) 
   abbrev failures : ℕ
   failures = failed_calls client c.calls es
 
-  -- the bound after a poll, by what it comes to
-  abbrev pub CostOf : Course → Poll A → Type 0
-  CostOf new polls.Busy = new.calls < most → ReadCost client new new.stage now
-  CostOf new polls.More = new.calls < most → ReadCost client new new.stage now
-  CostOf new polls.Fault = new.calls < most → ReadCost client new new.stage now
-  CostOf new _ = new.calls < most → OverStage client new c.stage now
+  abbrev CostOf : Course → Poll A → Type 0
+  CostOf new poll = CostAfter client c now new poll
 
   -- a call that failed
   fault : answer ≡ replies.Failed → faults_of e.outcome ≡ 1

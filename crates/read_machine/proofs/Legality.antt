@@ -50,11 +50,13 @@ use Rattle.load_core.proofs.Scanned.{undamaged}
 use Rattle.change_core.specs.Changes.{is_gone, number_of}
 use Rattle.change_core.proofs.Members.{found_kind, found_stands, kind_back, none_stands, places_now}
 use Rattle.read_machine.specs.declared.courses.Course.{Course}
+use Rattle.read_machine.specs.declared.looks.Look.TheVariants as looks
 use Rattle.read_machine.specs.declared.sights.Sight.{Sight}
 use Rattle.read_machine.specs.declared.sights.Sight.TheVariants as sights
+use Rattle.read_machine.specs.declared.stages.Stage.{Stage}
 use Rattle.read_machine.specs.declared.stages.Stage.TheVariants as stages
-use Rattle.read_machine.specs.Courses.{GoesBy, MovesByFetched, counted, expired, holding, missing_poll, read_call, rows_poll, sight_of, sight_poll}
-use Rattle.read_machine.specs.Following.{FollowsAsked, IsRead, SinceGot, SinceMissing}
+use Rattle.read_machine.specs.Courses.{GoesBy, MovesByFetched, counted, expired, holding, missing_poll, read_call, rows_by, rows_poll, sight_of, sight_poll}
+use Rattle.read_machine.specs.Following.{FollowsAsked, FollowsStage, IsRead, SinceGot, SinceMissing}
 use Rattle.read_machine.specs.Questions.{IsQuestion, NoScanOf, Questions, ShownAt, own_count, since}
 use Rattle.read_machine.specs.Readings.{IsGetting, SoundBy}
 use Rattle.read_machine.proofs.FollowsOn.{get_is, scan_done, scan_is, scan_last, staged_is}
@@ -80,6 +82,14 @@ read_no_cas (calls.Truncate shard below) h = absurd h
 read_no_cas (calls.Set k b) h = absurd h
 read_no_cas (calls.Delete k) h = absurd h
 
+-- what a poll comes to is legal at the end of these entries, after one call more
+abbrev pub LegalAfter : {Q A : Type 0} → Questions Q A → ℕ → Course → Q → Stored → List Update → List Entry → Poll A → Type 0
+LegalAfter W client c q start list es (polls.Done answer) =
+    more c.calls < most → W.Legal q c.loader.shard c.member start (places client (more c.calls) es) list answer
+LegalAfter W client c q start list es polls.Spent = ⊥
+LegalAfter W client c q start list es (polls.Damaged damage) = ⊥
+LegalAfter W client c q start list es _ = ⊤
+
 module _ {Q A : Type 0} (W : Questions Q A) (L : IsQuestion W) (start : Stored) (list : List Update) (client : ℕ) (c : Course) (q : Q) (e : Entry)
     (others es : List Entry) (s : SoundBy W c q) (call_is : read_call c c.stage ≡ Some e.call) (own : e.client ≡ client)
     (of : OfOthers client others) (st : StandsFor start c.loader.shard list) (lawful : LawfulBack start (e ∷ (others ++ es)))
@@ -99,12 +109,8 @@ module _ {Q A : Type 0} (W : Questions Q A) (L : IsQuestion W) (start : Stored) 
   abbrev ps : List Placed
   ps = places client calls_now All
 
-  -- what a poll comes to is legal
-  abbrev pub LegalOf : Poll A → Type 0
-  LegalOf (polls.Done answer) = calls_now < most → W.Legal q c.loader.shard c.member start ps list answer
-  LegalOf polls.Spent = ⊥
-  LegalOf (polls.Damaged damage) = ⊥
-  LegalOf _ = ⊤
+  abbrev LegalOf : Poll A → Type 0
+  LegalOf poll = LegalAfter W client c q start list All poll
 
   told : (poll p : Poll A) → poll ≡ p → LegalOf p → LegalOf poll
   told poll p is h = subst LegalOf (sym is) h
@@ -284,11 +290,11 @@ module _ {Q A : Type 0} (W : Questions Q A) (L : IsQuestion W) (start : Stored) 
         LegalOf (rows_poll W (counted c) q g.rows)
     rows_legal g keys_are held =
         let rows_are : polls.Done (W.answer q k g.rows) ≡ rows_poll W (counted c) q g.rows =
-        sym (ap (λ (o : Option ShardState). Rattle.read_machine.specs.Courses.rows_by W o q g.rows) cached) in
+        sym (ap (λ (o : Option ShardState). rows_by W o q g.rows) cached) in
         subst LegalOf rows_are
         (λ less. subst (λ (x : List Entry). W.Legal q c.loader.shard c.member start (places client calls_now x) list (W.answer q k g.rows))
         (sym split) (L.got q client c.loader.shard c.member calls_now list start front scan back k g.keys g.rows (shown_then less)
-        (subst (λ (ks : List PartKey). W.look q k ≡ Rattle.read_machine.specs.declared.looks.Look.TheVariants.Parts ks) (sym keys_are) reads.keys) held))
+        (subst (λ (ks : List PartKey). W.look q k ≡ looks.Parts ks) (sym keys_are) reads.keys) held))
 
     -- what a Get comes to is legal
     get_legal : (new : Course) (poll : Poll A) (g : Getting) (fetched : Fetched) → getting.Moves c.getting rep g fetched →
@@ -309,7 +315,7 @@ module _ {Q A : Type 0} (W : Questions Q A) (L : IsQuestion W) (start : Stored) 
             let bytes : BringsBytes rep = subst BringsBytes (sym is_r) (part_reads b found reads_as).bytes in
             let so_far : IsGotSoFar (answered e rep ∷ mine_back then w.since.later client) g =
             still_got (mine_back then w.since.later client) c.getting g (answered e rep) fetched w.got
-            (subst (λ (x : Rattle.read_machine.specs.declared.stages.Stage.Stage). read_call c x ≡ Some e.call) stage call_is) bytes moves in
+            (subst (λ (x : Stage). read_call c x ≡ Some e.call) stage call_is) bytes moves in
             let held = all_got (answered e rep ∷ mine_back then w.since.later client) g so_far over in
             let held2 = subst (λ (os : List Answered). Hold (GotAs os) g.keys g.rows) (sym own_front) held in
             told poll (rows_poll W (counted c) q g.rows) (say fetches.Done is_f).0
@@ -357,13 +363,13 @@ module _ {Q A : Type 0} (W : Questions Q A) (L : IsQuestion W) (start : Stored) 
       let h : IsScanStage c.stage = subst IsScanStage (sym stage) tt in
       let later = asked_others W.kind start client others es of c f in
       let (k, cached, w) = some_is (SinceMissing W.kind client c start (others ++ es) x) c.loader.cached
-      (subst (Rattle.read_machine.specs.Following.FollowsStage W.kind client c start (others ++ es)) stage later.reading) in
+      (subst (FollowsStage W.kind client c start (others ++ es)) stage later.reading) in
       let sounds = at_stage W c q s (stages.Check x) stage in
       let reads = subst (λ (o : Option ShardState). IsSomeAnd o (IsGetting W c q)) cached sounds.0 in
       check_legal vs h is_r poll k x w (names_key W L c q k x reads sounds.1) k2 (newest_here vs h is_r k2 newest) p
   read_legal new poll (got g fetched stage moves how by) =
       let later = asked_others W.kind start client others es of c f in
       let (k, cached, w) = some_is (SinceGot W.kind client c start (others ++ es)) c.loader.cached
-      (subst (Rattle.read_machine.specs.Following.FollowsStage W.kind client c start (others ++ es)) stage later.reading) in
+      (subst (FollowsStage W.kind client c start (others ++ es)) stage later.reading) in
       let reads = subst (λ (o : Option ShardState). IsSomeAnd o (IsGetting W c q)) cached (at_stage W c q s stages.Get stage) in
       get_legal k cached w reads stage new poll g fetched moves how by

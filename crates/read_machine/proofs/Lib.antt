@@ -1,6 +1,7 @@
 pub mod Costs
 pub mod FollowsOn
 pub mod HowRead
+pub mod Keeping
 pub mod Legality
 pub mod Moving
 pub mod PartWeights
@@ -10,3 +11,4 @@ pub mod Since
 pub mod Sound
 pub mod Stretch
 pub mod Undamaged
+pub mod Ways
