@@ -60,7 +60,7 @@ module _ {Q A : Type 0} (W : Questions Q A) where
       go None is h = absurd h
       go (Some q) is (c, h, now) = record { q = q; asked = is; course = c; how = how_read W (counted m.course) q r c poll h; now = now }
 
-  read_stays : (m new : Reading Q) (r : Reply) (poll : Poll A) → Moves W m r new poll → Stays (counted m.course) new.course
+  pub read_stays : (m new : Reading Q) (r : Reply) (poll : Poll A) → Moves W m r new poll → Stays (counted m.course) new.course
   read_stays m new r poll moves =
       let x = read_so m new r poll moves in
       subst (λ (z : Reading Q). Stays (counted m.course) z.course) (sym x.now) (stays W (counted m.course) x.q r x.course poll x.how)
@@ -68,7 +68,7 @@ module _ {Q A : Type 0} (W : Questions Q A) where
   same_kept : (m new : Reading Q) → Stays (counted m.course) new.course → new.asked ≡ m.asked → kept new ≡ kept m
   same_kept m new s asked = λ i. record { asked = asked i; member = s.member i; shard = s.shard i }
 
-  more_kept : (m new : Reading Q) (r : Reply) (poll : Poll A) → Moves W m r new poll → GoesOn poll → kept new ≡ kept m
+  pub more_kept : (m new : Reading Q) (r : Reply) (poll : Poll A) → Moves W m r new poll → GoesOn poll → kept new ≡ kept m
   more_kept m new r poll moves on =
       let x = read_so m new r poll moves in
       same_kept m new (read_stays m new r poll moves) (ap (λ (z : Reading Q). z.asked) x.now ∙ as_asked poll x.q on ∙ sym x.asked)
@@ -80,6 +80,18 @@ module _ {Q A : Type 0} (W : Questions Q A) where
       as_asked polls.Spent q o = absurd o
       as_asked (polls.Damaged damage) q o = absurd o
       as_asked (polls.Done a) q o = absurd o
+
+  -- where it has ended nothing is asked
+  pub ended_none : (m new : Reading Q) (r : Reply) (poll : Poll A) → Moves W m r new poll → Ends poll → new.asked ≡ None
+  ended_none m new r poll moves over = let x = read_so m new r poll moves in ap (λ (z : Reading Q). z.asked) x.now ∙ go poll x.q over
+    where
+      go : (p : Poll A) (q : Q) → Ends p → asked_after (Some q) p ≡ None
+      go polls.Busy q h = absurd h
+      go polls.More q h = absurd h
+      go polls.Fault q h = absurd h
+      go polls.Spent q h = refl
+      go (polls.Damaged damage) q h = refl
+      go (polls.Done a) q h = refl
 
   busy_never : (m new : Reading Q) (r : Reply) → ¬ Moves W m r new polls.Busy
   busy_never m new r moves = let x = read_so m new r polls.Busy moves in
@@ -143,7 +155,7 @@ module _ {Q A : Type 0} (W : Questions Q A) where
       go None some e = absurd (let bad : false ≡ true = some in cc)
       go (Some q) some e = (q, e)
 
-  sound_by : (m : Reading Q) (q : Q) → m.asked ≡ Some q → IsSound W m → SoundBy W m.course q
+  pub sound_by : (m : Reading Q) (q : Q) → m.asked ≡ Some q → IsSound W m → SoundBy W m.course q
   sound_by m q is s = let h = s.asked in subst (λ (o : Option Q). IfSome o (SoundBy W m.course)) is h
 
   none_open : (o : Option Q) → ¬ IsSome o → o ≡ None

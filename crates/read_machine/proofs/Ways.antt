@@ -38,11 +38,12 @@ pub data Comes {A : Type 0} (reply : Reply) (poll : Poll A) : Type 0 where
   again : reply ≡ replies.Failed → poll ≡ polls.Fault → Comes reply poll
   ends : Ends poll → Comes reply poll
 
--- the member and the shard are the same, and one call more is counted
+-- the member, the shard and the count of calls are the same, and a state that was seen isn't forgotten
 pub record Stays (old new : Course) : Type 0 where
   pub member : new.member ≡ old.member
   pub shard : new.loader.shard ≡ old.loader.shard
   pub calls : new.calls ≡ old.calls
+  pub known : IsSome old.loader.cached → IsSome new.loader.cached
 
 stays_at : (old z new : Course) → new ≡ z → Stays old z → Stays old new
 stays_at old z new is h = subst (Stays old) (sym is) h
@@ -105,26 +106,26 @@ module _ {Q A : Type 0} (W : Questions Q A) (old : Course) (q : Q) (reply : Repl
   comes (got g f st m how by) = got_comes g f how by
 
   staged_stays : (k : ShardState) (sight : Sight A) → Stays old (staged (holding old k) sight)
-  staged_stays k sights.Gone = record { member = refl; shard = refl; calls = refl }
-  staged_stays k sights.Strange = record { member = refl; shard = refl; calls = refl }
-  staged_stays k (sights.Answer a) = record { member = refl; shard = refl; calls = refl }
-  staged_stays k (sights.Parts ks) = record { member = refl; shard = refl; calls = refl }
+  staged_stays k sights.Gone = record { member = refl; shard = refl; calls = refl; known = λ h. refl }
+  staged_stays k sights.Strange = record { member = refl; shard = refl; calls = refl; known = λ h. refl }
+  staged_stays k (sights.Answer a) = record { member = refl; shard = refl; calls = refl; known = λ h. refl }
+  staged_stays k (sights.Parts ks) = record { member = refl; shard = refl; calls = refl; known = λ h. refl }
 
   fetched_stays : (g : Getting) (f : Fetched) → MovesByFetched W old q g f new poll → Stays old new
-  fetched_stays g fetches.More m = stays_at old (record old { getting = g }) new m.1 (record { member = refl; shard = refl; calls = refl })
-  fetched_stays g fetches.Fault m = stays_at old (record old { getting = g }) new m.1 (record { member = refl; shard = refl; calls = refl })
+  fetched_stays g fetches.More m = stays_at old (record old { getting = g }) new m.1 (record { member = refl; shard = refl; calls = refl; known = λ h. h })
+  fetched_stays g fetches.Fault m = stays_at old (record old { getting = g }) new m.1 (record { member = refl; shard = refl; calls = refl; known = λ h. h })
   fetched_stays g (fetches.Missing key) m = stays_at old (record old { getting = g; stage = stages.Check key }) new m.1
-      (record { member = refl; shard = refl; calls = refl })
+      (record { member = refl; shard = refl; calls = refl; known = λ h. h })
   fetched_stays g (fetches.Damaged damage) m = stays_at old (record old { getting = g }) new m.1
-      (record { member = refl; shard = refl; calls = refl })
-  fetched_stays g fetches.Done m = stays_at old (record old { getting = g }) new m.1 (record { member = refl; shard = refl; calls = refl })
+      (record { member = refl; shard = refl; calls = refl; known = λ h. h })
+  fetched_stays g fetches.Done m = stays_at old (record old { getting = g }) new m.1 (record { member = refl; shard = refl; calls = refl; known = λ h. h })
 
   pub stays : HowRead W old q reply new poll → Stays old new
-  stays (unscanned st r p n) = stays_at old old new n (record { member = refl; shard = refl; calls = refl })
-  stays (damaged vs damage st r e p n) = stays_at old old new n (record { member = refl; shard = refl; calls = refl })
+  stays (unscanned st r p n) = stays_at old old new n (record { member = refl; shard = refl; calls = refl; known = λ h. h })
+  stays (damaged vs damage st r e p n) = stays_at old old new n (record { member = refl; shard = refl; calls = refl; known = λ h. h })
   stays (scanned vs k st r e by) = stays_at old (staged (holding old k) (sight_of W q k old.member)) new by.1
       (staged_stays k (sight_of W q k old.member))
-  stays (checked key vs k st r e p n) = stays_at old (holding old k) new n (record { member = refl; shard = refl; calls = refl })
+  stays (checked key vs k st r e p n) = stays_at old (holding old k) new n (record { member = refl; shard = refl; calls = refl; known = λ h. refl })
   stays (got g f st m how by) = fetched_stays g f by
 
   -- ---- what its call has done

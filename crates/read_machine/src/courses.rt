@@ -216,6 +216,7 @@ impl Course {
 
     // The answer from the rows that were got.
     fn answer<Q: Question>(&self, alloc: Global, question: &Q) -> Result<Q::Answer, AllocError>
+        requires { getting.IsSound self.now.getting }
         ensures { IfOk result (λ answer. Poll.Done answer ≡ rows_poll Q.question self.now question.now self.now.getting.rows) }
     {
         match self.loader.state() {
