@@ -1,6 +1,9 @@
+pub mod Changing
 pub mod Contents
+pub mod FollowsOn
 pub mod Looks
 pub mod Moving
 pub mod Questioning
 pub mod Sound
 pub mod StepParts
+pub mod Waiting

@@ -1,6 +1,6 @@
 -- What holds of a snapshot and of a step, as questions. Entries go newest first.
-use Rattle.std.proofs.Common.{◌≡◌, ℕ, Option, None, List, [], ◌∷◌, ◌++◌, refl, sym, ap, subst, ◌∙◌}
-use Rattle.std.specs.Prelude.{⊤, nat_le}
+use Rattle.std.proofs.Common.{◌≡◌, ℕ, Option, Some, None, List, [], ◌∷◌, ◌++◌, refl, sym, ap, subst, ◌∙◌}
+use Rattle.std.specs.Prelude.{⊤, IsSomeAnd, nat_le}
 use Rattle.std.specs.List.{AllByRecursion}
 use Rattle.std.specs.Ordering.{is_lt}
 use Rattle.update_core.specs.declared.updates.Update.{Update}
@@ -9,6 +9,8 @@ use Rattle.update_core.specs.Frontiers.{frontier_cmp}
 use Rattle.update_core.specs.Updates.{slice_of, sum_of}
 use Rattle.store_core.specs.declared.part_keys.PartKey.{PartKey}
 use Rattle.store_core.specs.declared.shards.ShardId.{ShardId}
+use Rattle.store_core.specs.declared.calls.Call.{Call}
+use Rattle.store_core.specs.declared.replies.Reply.{Reply}
 use Rattle.store_core.specs.declared.entries.Entry.{Entry}
 use Rattle.store_core.specs.Stores.{Stored}
 use Rattle.store_core.specs.Newest.{mine_back, replay_back}
@@ -22,15 +24,22 @@ use Rattle.history_core.specs.Laws.{LastIs}
 use Rattle.history_core.specs.Legal.{Absent, AtLast, PartsGot, Reads, ReadsAt, collection_in, snapshot_keys, step_keys}
 use Rattle.history_core.specs.Placing.{GotSinceScan, Placed}
 use Rattle.history_core.specs.Stands.{accepted}
+use Rattle.load_core.specs.declared.polls.Poll.{Poll}
+use Rattle.load_core.specs.declared.polls.Poll.TheVariants as polls
+use Rattle.load_core.specs.Effects.{IsShown}
 use Rattle.change_core.proofs.Members.{found_stands}
+use Rattle.machine_core.specs.Machines.{Ending, Keeps}
 use Rattle.read_machine.specs.declared.looks.Look.{Look}
 use Rattle.read_machine.specs.declared.looks.Look.TheVariants as looks
 use Rattle.read_machine.specs.Questions.{GotSince, IsQuestion, ShownAt, SomeParts, since}
+use Rattle.read_machine.specs.Readings.{CameBy, DidBy, lapsed, looked, read, words}
+use Rattle.read_machine.proofs.Keeping.{ending, keeps}
 use Rattle.read_machine.proofs.Shown.{at_scan, each_got}
 use Rattle.read_machine.proofs.Undamaged.{last_then, updates_are}
 use Rattle.read_client.specs.declared.questions.Question.{Question}
 use Rattle.read_client.specs.declared.questions.Question.TheVariants as questions
 use Rattle.read_client.specs.Asking.{QuestionLegal, QuestionReads, RowGot, asking, asks_of, content_look, rows_answer, step_look}
+use Rattle.read_client.specs.Polling.{IsRefusal}
 use Rattle.read_client.proofs.Contents.{rows_back, stand_back, step_back}
 use Rattle.read_client.proofs.Looks.{HowListen, HowSnapshot, behinds, contents, earlies, endeds, how_listen, how_snapshot, lates, quiets, steps}
 use Rattle.read_client.proofs.StepParts.{row_in, row_since}
@@ -192,3 +201,78 @@ is_question = record {
       before s at q keys rows;
   gone = gone_told;
 }
+
+-- ---- a question as a machine
+
+pub read_keeps : Keeps (words asking)
+read_keeps = keeps asking is_question
+
+pub read_ending : Ending (words asking)
+read_ending = ending asking is_question
+
+-- an answer to a question
+abbrev pub IsReadAnswer : ReadAnswer → Type 0
+IsReadAnswer (answers.Rows rows) = ⊤
+IsReadAnswer (answers.Early since) = ⊤
+IsReadAnswer (answers.Late upper) = ⊤
+IsReadAnswer (answers.Step from to rows) = ⊤
+IsReadAnswer (answers.Quiet upper) = ⊤
+IsReadAnswer answers.Ended = ⊤
+IsReadAnswer (answers.Expired version) = ⊤
+IsReadAnswer _ = ⊥
+
+look_reads : (q : Question) (s : ShardState) (answer : ReadAnswer) → asks_of q s ≡ looks.Answer answer → IsReadAnswer answer
+look_reads (questions.Content t) s answer e = by (how_snapshot t s)
+  where
+    say : (a : ReadAnswer) → asks_of (questions.Content t) s ≡ looks.Answer a → IsReadAnswer a → IsReadAnswer answer
+    say a is h = subst IsReadAnswer (ap answer_of (sym is ∙ e)) h
+
+    by : HowSnapshot t s → IsReadAnswer answer
+    by (earlies h) = say (answers.Early s.since) (ap (content_look t s) (h [])) tt
+    by (lates h) = say (answers.Late s.upper) (ap (content_look t s) (h [])) tt
+    by (contents h) = absurd (apart (looks.Answer answer) (looks.Parts (snapshot_keys t s)) (sym e ∙ ap (content_look t s) (h [])) refl refl)
+look_reads (questions.Step f) s answer e = by (how_listen f s)
+  where
+    say : (a : ReadAnswer) → asks_of (questions.Step f) s ≡ looks.Answer a → IsReadAnswer a → IsReadAnswer answer
+    say a is h = subst IsReadAnswer (ap answer_of (sym is ∙ e)) h
+
+    by : HowListen f s → IsReadAnswer answer
+    by (behinds h) = say (answers.Early s.since) (ap (step_look f s) (h [])) tt
+    by (endeds h) = say answers.Ended (ap (step_look f s) (h [])) tt
+    by (quiets h) = say (answers.Quiet s.upper) (ap (step_look f s) (h [])) tt
+    by (steps h) = absurd (apart (looks.Answer answer) (looks.Parts (step_keys f s)) (sym e ∙ ap (step_look f s) (h [])) refl refl)
+
+rows_read : (q : Question) (s : ShardState) (rows : List Update) → IsReadAnswer (rows_answer q s rows)
+rows_read (questions.Content t) s rows = tt
+rows_read (questions.Step f) s rows = tt
+
+rows_given : (q : Question) (s : ShardState) (rows : List Update) → ¬ IsRefusal (polls.Done (rows_answer q s rows))
+rows_given (questions.Content t) s rows h = h
+rows_given (questions.Step f) s rows h = h
+
+-- what a question is answered is such an answer
+pub came_reads : (o : Option Question) (shard : ShardId) (call : Call) (r : Reply) (answer : ReadAnswer) →
+    IsSomeAnd o (λ q. DidBy asking q shard call r (polls.Done answer)) → IsReadAnswer answer
+came_reads None shard call r answer h = absurd h
+came_reads (Some q) shard call r answer (none, came) = by came
+  where
+    by : CameBy asking q (IsShown shard call r) answer → IsReadAnswer answer
+    by (looked s look shown) = look_reads q s answer look
+    by (read s rows is) = subst IsReadAnswer (sym is) (rows_read q s rows)
+    by (lapsed version is shown) = subst IsReadAnswer (sym is) tt
+
+-- and a refusal among them is shown by a Scan
+pub came_shown : (o : Option Question) (shard : ShardId) (call : Call) (r : Reply) (poll : Poll ReadAnswer) →
+    IsSomeAnd o (λ q. DidBy asking q shard call r poll) → IsRefusal poll → IsShown shard call r
+came_shown None shard call r poll h refused = absurd h
+came_shown (Some q) shard call r polls.Spent h refused = absurd h
+came_shown (Some q) shard call r polls.Busy h refused = absurd refused
+came_shown (Some q) shard call r polls.More h refused = absurd refused
+came_shown (Some q) shard call r polls.Fault h refused = absurd refused
+came_shown (Some q) shard call r (polls.Damaged damage) h refused = absurd refused
+came_shown (Some q) shard call r (polls.Done answer) (none, came) refused = by came
+  where
+    by : CameBy asking q (IsShown shard call r) answer → IsShown shard call r
+    by (looked s look shown) = shown
+    by (read s rows is) = absurd (rows_given q s rows (subst (λ (a : ReadAnswer). IsRefusal (polls.Done a)) is refused))
+    by (lapsed version is shown) = shown
