@@ -117,10 +117,10 @@ impl Reader {
     }
 
     // A command that reads begins, from the newest state that was seen.
-    fn begin_read(&mut self, asked: Asked)
+    fn begin_read(&mut self, member: u64, asked: Asked)
+        requires { self.old.member ≡ Some member }
         ensures { BeginsRead self.old asked self.old.listen self.new }
     {
-        let member = self.member.unwrap_or(0);
         let question = question_of(&asked, self.listen);
         let loader = taken(&mut self.trying.loader);
         self.trying.calls = 0;
@@ -138,8 +138,8 @@ impl Reader {
         ensures follows { (client : ℕ) (front : Option History) → FollowsWhere client front self.old → FollowsWhere client front self.new }
         ensures cost { OnOk result ((base client : ℕ) (front : Option History) → 3 ≤ base → WhereLawful (shard_of self.new) front (Backwards (CostAt base client self.new))) }
     {
-        let _member = self.member_to_ask()?;
-        self.begin_read(Asked::Snapshot { t });
+        let member = self.member_to_ask()?;
+        self.begin_read(member, Asked::Snapshot { t });
         Ok(())
     }
 
@@ -152,9 +152,9 @@ impl Reader {
         ensures follows { (client : ℕ) (front : Option History) → FollowsWhere client front self.old → FollowsWhere client front self.new }
         ensures cost { OnOk result ((base client : ℕ) (front : Option History) → 3 ≤ base → WhereLawful (shard_of self.new) front (Backwards (CostAt base client self.new))) }
     {
-        let _member = self.member_to_ask()?;
+        let member = self.member_to_ask()?;
         self.listen = Some(Frontier::after(as_of));
-        self.begin_read(Asked::Listen { as_of });
+        self.begin_read(member, Asked::Listen { as_of });
         Ok(())
     }
 
@@ -166,11 +166,11 @@ impl Reader {
         ensures follows { (client : ℕ) (front : Option History) → FollowsWhere client front self.old → FollowsWhere client front self.new }
         ensures cost { OnOk result ((base client : ℕ) (front : Option History) → 3 ≤ base → WhereLawful (shard_of self.new) front (Backwards (CostAt base client self.new))) }
     {
-        let _member = self.member_to_ask()?;
+        let member = self.member_to_ask()?;
         if self.listen.is_none() {
             return Err(BeginFault::NoListen);
         }
-        self.begin_read(Asked::Next);
+        self.begin_read(member, Asked::Next);
         Ok(())
     }
 

@@ -66,10 +66,17 @@ impl Reader {
         ensures reading { readings.IsSound asking self.new.reading }
         ensures memory { OnErr result (self.new ≡ reading_on self.old (record self.old.reading { course = counted self.old.reading.course })) }
     {
-        self.trying.calls = self.trying.calls.saturating_add(1);
+        self.count();
         let poll = self.reading.react(alloc, reply)?;
         self.take_back(&poll);
         Ok(poll)
+    }
+
+    // One more call was made.
+    fn count(&mut self)
+        ensures { self.new ≡ reading_on self.old self.old.reading }
+    {
+        self.trying.calls = self.trying.calls.saturating_add(1);
     }
 
     // The newest state is the transition's again where the question has ended.
