@@ -1,9 +1,9 @@
-// Where a snapshot or a listen stands.
+// Where a reading stands.
 use store_core::PartKey;
 
-/// What a snapshot or a step of a listen does next.
+/// What a reading does next.
 #[derive(Clone, Copy, Drop)]
-pub(crate) enum Stage {
+pub enum Stage {
     /// A scan, which shows what there is to be read.
     Scan,
     /// A get of the next part.

@@ -27,7 +27,7 @@ use Rattle.history_core.proofs.LawfulLaws.{lawful_of_older}
 use Rattle.history_core.proofs.StandsAfter.{stands_after}
 use Rattle.history_core.proofs.StateFacts.{last_one, state_none, state_number}
 use Rattle.history_core.proofs.Stays.{bytes_stay}
-use Rattle.read_client.specs.Following.{own_count}
+use Rattle.read_machine.specs.Questions.{own_count}
 
 -- entries after others
 pub replay_behind : (start : Stored) (fs es : List Entry) → replay_back start (fs ++ es) ≡ replay_back (replay_back start es) fs

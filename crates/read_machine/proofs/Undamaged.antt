@@ -40,8 +40,8 @@ use Rattle.history_core.proofs.PartContents.{all_filter}
 use Rattle.history_core.proofs.StandsAfter.{stands_after}
 use Rattle.history_core.proofs.StateFacts.{last_one, state_rules}
 use Rattle.history_core.proofs.Stays.{bytes_stay}
-use Rattle.read_client.proofs.PartWeights.{front_light, front_more, spine_light}
-use Rattle.read_client.proofs.Stretch.{replay_behind}
+use Rattle.read_machine.proofs.PartWeights.{front_light, front_more, spine_light}
+use Rattle.read_machine.proofs.Stretch.{replay_behind}
 
 -- ---- bytes that are a part
 

@@ -1,4 +1,4 @@
--- Where a reader's calls stand in a history, and the laws of histories that its answers rest on. Entries go newest first.
+-- Where the calls of a reading stand in a history. Entries go newest first.
 use Rattle.std.proofs.Common.{◌≡◌, ℕ, zero, suc, ◌+◌, ◌<◌, true, false, Option, None, List, [], ◌∷◌, ◌++◌, inl, inr, sym, ap, subst, ◌∙◌, arith, eqb}
 use Rattle.std.specs.Prelude.{reverse}
 use Rattle.std.specs.List.{AllByRecursion}
@@ -40,8 +40,8 @@ use Rattle.history_core.proofs.StepStands.{rows_stand_law}
 use Rattle.history_core.proofs.Walking.{all_back}
 use Rattle.load_core.specs.Trying.{more}
 use Rattle.load_core.proofs.Gaining.{lawful_forth}
-use Rattle.read_client.specs.Following.{own_count}
-use Rattle.read_client.proofs.Stretch.{replay_behind}
+use Rattle.read_machine.specs.Questions.{NoScanOf, own_count}
+use Rattle.read_machine.proofs.Stretch.{replay_behind}
 
 -- ---- a command's entries
 
@@ -51,10 +51,6 @@ next_count n m h less = omega arith
 
 is_mine : (client : ℕ) (e : Entry) → e.client ≡ client → eqb e.client client ≡ true
 is_mine client e eq = eq-eqb e.client client eq
-
--- no entry of the client is a Scan that was answered
-abbrev pub NoScanOf : ℕ → ShardId → List Entry → Type 0
-NoScanOf client shard es = AllByRecursion (λ e. e.client ≡ client → ¬ IsAnsweredScan shard (placed e [])) es
 
 -- where no Scan of a client was answered since one of a command, what holds at that one's place holds at the last answered Scan
 pub at_last : (client n : ℕ) (shard : ShardId) (later : List Entry) (scan : Entry) (before : List Entry) (P : Placed → Type 0) →
@@ -93,71 +89,38 @@ got_since client (suc n) start shard k b (x ∷ xs) scan before quiet few got = 
       rw e (got_since client (suc n) start shard k b xs scan before quiet.1 few2 (rw e at got))
 ]
 
--- ---- the member that is looked for
-
 -- ---- laws of histories, with the newest entry first
 
 module _ (start : Stored) (es : List Entry) where
-  abbrev past : History
+  abbrev pub past : History
   past = record { start = start; trail = reverse es }
 
-  back_is : reverse past.trail ≡ es
+  pub back_is : reverse past.trail ≡ es
   back_is = reverse-reverse es
 
-  store_is : store_after past ≡ replay_back start es
+  pub store_is : store_after past ≡ replay_back start es
   store_is = replay-newest start (reverse es) ∙ ap (replay_back start) back_is
 
-  own_is : (c : ℕ) → own_of past c ≡ mine_back start es c
+  pub own_is : (c : ℕ) → own_of past c ≡ mine_back start es c
   own_is c = mine-newest past c ∙ ap (λ (q : List Entry). mine_back start q c) back_is
 
 module _ (start : Stored) (es later : List Entry) where
-  abbrev after : List Entry
+  abbrev pub after : List Entry
   after = reverse later
 
-  both_are : reverse (with_entries (past start es) after).trail ≡ later ++ es
+  pub both_are : reverse (with_entries (past start es) after).trail ≡ later ++ es
   both_are =
       turned (past start es) after ∙ ap (λ (q : List Entry). q ++ reverse (reverse es)) (reverse-reverse later)
       ∙ ap (λ (q : List Entry). later ++ q) (reverse-reverse es)
 
-  lawful_is : LawfulBack start (later ++ es) → Lawful (with_entries (past start es) after)
+  pub lawful_is : LawfulBack start (later ++ es) → Lawful (with_entries (past start es) after)
   lawful_is l = lawful_forth (with_entries (past start es) after) (subst (LawfulBack start) (sym both_are) l)
 
-  own_past_is : (c : ℕ) → own_past (past start es) after c ≡ mine_back (replay_back start es) later c
+  pub own_past_is : (c : ℕ) → own_past (past start es) after c ≡ mine_back (replay_back start es) later c
   own_past_is c =
       mine-newest (record { start = store_after (past start es); trail = after }) c
       ∙ ap (λ (s : Stored). mine_back s (reverse (reverse later)) c) (store_is start es)
       ∙ ap (λ (q : List Entry). mine_back (replay_back start es) q c) (reverse-reverse later)
-
-  -- what is got later of a snapshot's parts has the content that the collection answers
-  pub rows_back : (shard : ShardId) (list : List Update) → StandsFor start shard list → LawfulBack start (later ++ es) →
-      (n : ℕ) (s : ShardState) → LastIs (replay_back start es) shard n s → (t : ℕ) (rows : List Row) →
-      snapshot_answer (collection_in (accepted shard list start es) s) t ≡ content rows → (client : ℕ) (updates : List Update) →
-      Hold (GotAs (mine_back (replay_back start es) later client)) (keys_of (begun_by t s.batches)) updates → sum_of updates t ≡ rows
-  rows_back shard list st l n s is t rows answer client updates held =
-      rows_law shard list (past start es) after st (lawful_is l) n s (subst (λ (q : Stored). LastIs q shard n s) (sym (store_is start es)) is) t rows
-      (subst (λ (q : List Entry). snapshot_answer (collection_in (accepted shard list start q) s) t ≡ content rows) (sym (back_is start es)) answer) client updates
-      (subst (λ (own : List Answered). Hold (GotAs own) (keys_of (begun_by t s.batches)) updates) (sym (own_past_is client)) held)
-
-  -- and of a step's parts the slice
-  pub step_back : (shard : ShardId) (list : List Update) → StandsFor start shard list → LawfulBack start (later ++ es) →
-      (n : ℕ) (s : ShardState) → LastIs (replay_back start es) shard n s → (f to : Option ℕ) (rows : List Update) →
-      listen_answer (collection_in (accepted shard list start es) s) f ≡ step rows to → (client : ℕ) (updates : List Update) →
-      Hold (GotAs (mine_back (replay_back start es) later client)) (keys_of (ending_past f s.batches)) updates → slice_of updates f to ≡ rows
-  step_back shard list st l n s is f to rows answer client updates held =
-      step_law shard list (past start es) after st (lawful_is l) n s (subst (λ (q : Stored). LastIs q shard n s) (sym (store_is start es)) is) f to rows
-      (subst (λ (q : List Entry). listen_answer (collection_in (accepted shard list start q) s) f ≡ step rows to) (sym (back_is start es)) answer) client updates
-      (subst (λ (own : List Answered). Hold (GotAs own) (keys_of (ending_past f s.batches)) updates) (sym (own_past_is client)) held)
-
-  -- each row of which is one that was got
-  pub stand_back : (shard : ShardId) (list : List Update) → StandsFor start shard list → LawfulBack start (later ++ es) →
-      (n : ℕ) (s : ShardState) → LastIs (replay_back start es) shard n s → (f to : Option ℕ) (rows : List Update) →
-      listen_answer (collection_in (accepted shard list start es) s) f ≡ step rows to → (client : ℕ) (updates : List Update) →
-      Hold (GotAs (mine_back (replay_back start es) later client)) (keys_of (ending_past f s.batches)) updates →
-      (row : Update) → Among (λ other. other ≡ row) rows → Among (λ other. other ≡ row) updates
-  stand_back shard list st l n s is f to rows answer client updates held =
-      rows_stand_law shard list (past start es) after st (lawful_is l) n s (subst (λ (q : Stored). LastIs q shard n s) (sym (store_is start es)) is) f to rows
-      (subst (λ (q : List Entry). listen_answer (collection_in (accepted shard list start q) s) f ≡ step rows to) (sym (back_is start es)) answer) client updates
-      (subst (λ (own : List Answered). Hold (GotAs own) (keys_of (ending_past f s.batches)) updates) (sym (own_past_is client)) held)
 
   -- where a named key was absent and the member's owner made no Cas, the member stands no more as one that holds
   pub gone_back : (shard : ShardId) (list : List Update) → StandsFor start shard list → LawfulBack start (later ++ es) →

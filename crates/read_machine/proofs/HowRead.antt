@@ -10,7 +10,6 @@ use Rattle.store_core.specs.declared.versions.Version.{Version}
 use Rattle.store_core.specs.declared.replies.Reply.{Reply}
 use Rattle.store_core.specs.declared.replies.Reply.TheVariants as replies
 use Rattle.state_core.specs.States.{ShardState}
-use Rattle.history_core.specs.declared.read_answers.ReadAnswer.{ReadAnswer}
 use Rattle.load_core.specs.declared.damages.Damage.{Damage}
 use Rattle.load_core.specs.declared.damages.Damage.TheVariants as damages
 use Rattle.load_core.specs.declared.fetches.Fetched.{Fetched}
@@ -20,12 +19,11 @@ use Rattle.load_core.specs.declared.polls.Poll.{Poll}
 use Rattle.load_core.specs.declared.polls.Poll.TheVariants as polls
 use Rattle.load_core.specs.Getting as getting
 use Rattle.load_core.specs.Loading.{newest_after}
-use Rattle.read_client.specs.declared.questions.Question.{Question}
-use Rattle.read_client.specs.declared.readers.Reader.{Reader}
-use Rattle.read_client.specs.declared.stages.Stage.{Stage}
-use Rattle.read_client.specs.declared.stages.Stage.TheVariants as stages
-use Rattle.read_client.specs.Asking.{look_of}
-use Rattle.read_client.specs.Reading.{ChecksAt, GoesBy, LooksAt, MovesAfterCheck, MovesAfterGet, MovesAfterScan, MovesByFetched, MovesByStage, after_poll, holding, missing_poll, own_member, shard_of}
+use Rattle.read_machine.specs.declared.courses.Course.{Course}
+use Rattle.read_machine.specs.declared.stages.Stage.{Stage}
+use Rattle.read_machine.specs.declared.stages.Stage.TheVariants as stages
+use Rattle.read_machine.specs.Courses.{ChecksAt, GoesBy, LooksAt, MovesAfterCheck, MovesAfterGet, MovesAfterScan, MovesByFetched, MovesByStage, holding, missing_poll, sight_of}
+use Rattle.read_machine.specs.Questions.{Questions}
 
 -- ---- a part
 
@@ -94,58 +92,70 @@ IsScanStage stages.Scan = ⊤
 IsScanStage stages.Get = ⊥
 IsScanStage (stages.Check key) = ⊤
 
--- what a reply makes of a question
-pub data HowRead (old : Reader) (q : Question) (reply : Reply) (new : Reader) (poll : Poll ReadAnswer) : Type 0 where
-  unscanned : IsScanStage old.stage → reply ≡ replies.Failed → poll ≡ polls.Fault → new ≡ old → HowRead old q reply new poll
-  damaged : (vs : List Version) (damage : Damage) → IsScanStage old.stage → reply ≡ replies.Versions vs → newest_after (shard_of old) old.trying.loader.cached vs ≡ Err damage → poll ≡ polls.Damaged damage → new ≡ after_poll old poll → HowRead old q reply new poll
-  scanned : (vs : List Version) (s : ShardState) → old.stage ≡ stages.Scan → reply ≡ replies.Versions vs → newest_after (shard_of old) old.trying.loader.cached vs ≡ Ok (Some s) → GoesBy (holding old s) q (look_of q s (own_member old)) new poll → HowRead old q reply new poll
-  checked : (key : PartKey) (vs : List Version) (s : ShardState) → old.stage ≡ stages.Check key → reply ≡ replies.Versions vs → newest_after (shard_of old) old.trying.loader.cached vs ≡ Ok (Some s) → poll ≡ missing_poll (holding old s) key → new ≡ after_poll (holding old s) poll → HowRead old q reply new poll
-  got : (g : Getting) (fetched : Fetched) → old.stage ≡ stages.Get → getting.Moves old.getting reply g fetched → HowGot old.getting reply g fetched → MovesByFetched old q g fetched new poll → HowRead old q reply new poll
+-- what a reply makes of the reading of a question
+pub data HowRead {Q A : Type 0} (W : Questions Q A) (old : Course) (q : Q) (reply : Reply) (new : Course) (poll : Poll A) : Type 0 where
+  unscanned : IsScanStage old.stage → reply ≡ replies.Failed → poll ≡ polls.Fault → new ≡ old → HowRead W old q reply new poll
+  damaged : (vs : List Version) (damage : Damage) → IsScanStage old.stage → reply ≡ replies.Versions vs →
+      newest_after old.loader.shard old.loader.cached vs ≡ Err damage → poll ≡ polls.Damaged damage → new ≡ old → HowRead W old q reply new poll
+  scanned : (vs : List Version) (s : ShardState) → old.stage ≡ stages.Scan → reply ≡ replies.Versions vs →
+      newest_after old.loader.shard old.loader.cached vs ≡ Ok (Some s) → GoesBy W (holding old s) q (sight_of W q s old.member) new poll →
+      HowRead W old q reply new poll
+  checked : (key : PartKey) (vs : List Version) (s : ShardState) → old.stage ≡ stages.Check key → reply ≡ replies.Versions vs →
+      newest_after old.loader.shard old.loader.cached vs ≡ Ok (Some s) → poll ≡ missing_poll W (holding old s) q key → new ≡ holding old s →
+      HowRead W old q reply new poll
+  got : (g : Getting) (fetched : Fetched) → old.stage ≡ stages.Get → getting.Moves old.getting reply g fetched →
+      HowGot old.getting reply g fetched → MovesByFetched W old q g fetched new poll → HowRead W old q reply new poll
 
-pub how_read : (old : Reader) (q : Question) (reply : Reply) (new : Reader) (poll : Poll ReadAnswer) → MovesByStage old.stage old q reply new poll → HowRead old q reply new poll
-how_read old q reply new poll m = by_stage old.stage refl m
-  where
-    is_scan : (stage : Stage) → old.stage ≡ stage → IsScanStage stage → IsScanStage old.stage
-    is_scan stage e h = subst IsScanStage (sym e) h
+module _ {Q A : Type 0} (W : Questions Q A) (old : Course) (q : Q) (reply : Reply) (new : Course) (poll : Poll A) where
+  abbrev How : Type 0
+  How = HowRead W old q reply new poll
 
-    looks : (vs : List Version) (r : Result (Option ShardState) Damage) → old.stage ≡ stages.Scan → reply ≡ replies.Versions vs → newest_after (shard_of old) old.trying.loader.cached vs ≡ r → LooksAt old q r new poll → HowRead old q reply new poll
-    looks vs (Ok (Some s)) st e r h = scanned vs s st e r h
-    looks vs (Ok None) st e r h = absurd h
-    looks vs (Err damage) st e r h = damaged vs damage (is_scan stages.Scan st tt) e r h.0 h.1
+  is_scan : (stage : Stage) → old.stage ≡ stage → IsScanStage stage → IsScanStage old.stage
+  is_scan stage e h = subst IsScanStage (sym e) h
 
-    checks : (key : PartKey) (vs : List Version) (r : Result (Option ShardState) Damage) → old.stage ≡ stages.Check key → reply ≡ replies.Versions vs → newest_after (shard_of old) old.trying.loader.cached vs ≡ r → ChecksAt old key r new poll → HowRead old q reply new poll
-    checks key vs (Ok (Some s)) st e r h = checked key vs s st e r h.0 h.1
-    checks key vs (Ok None) st e r h = absurd h
-    checks key vs (Err damage) st e r h = damaged vs damage (is_scan (stages.Check key) st tt) e r h.0 h.1
+  looks : (vs : List Version) (r : Result (Option ShardState) Damage) → old.stage ≡ stages.Scan → reply ≡ replies.Versions vs →
+      newest_after old.loader.shard old.loader.cached vs ≡ r → LooksAt W old q r new poll → How
+  looks vs (Ok (Some s)) st e r h = scanned vs s st e r h
+  looks vs (Ok None) st e r h = absurd h
+  looks vs (Err damage) st e r h = damaged vs damage (is_scan stages.Scan st tt) e r h.0 h.1
 
-    by_scan : (r : Reply) → reply ≡ r → old.stage ≡ stages.Scan → MovesAfterScan old q r new poll → HowRead old q reply new poll
-    by_scan (replies.Versions vs) e st h = looks vs (newest_after (shard_of old) old.trying.loader.cached vs) st e refl h
-    by_scan replies.Failed e st h = unscanned (is_scan stages.Scan st tt) e h.0 h.1
-    by_scan (replies.Version v) e st h = absurd h
-    by_scan (replies.Committed n) e st h = absurd h
-    by_scan replies.Mismatch e st h = absurd h
-    by_scan replies.Spent e st h = absurd h
-    by_scan replies.Truncated e st h = absurd h
-    by_scan (replies.Bytes b) e st h = absurd h
-    by_scan replies.Stored e st h = absurd h
-    by_scan replies.Deleted e st h = absurd h
+  checks : (key : PartKey) (vs : List Version) (r : Result (Option ShardState) Damage) → old.stage ≡ stages.Check key →
+      reply ≡ replies.Versions vs → newest_after old.loader.shard old.loader.cached vs ≡ r → ChecksAt W old q key r new poll → How
+  checks key vs (Ok (Some s)) st e r h = checked key vs s st e r h.0 h.1
+  checks key vs (Ok None) st e r h = absurd h
+  checks key vs (Err damage) st e r h = damaged vs damage (is_scan (stages.Check key) st tt) e r h.0 h.1
 
-    by_check : (key : PartKey) (r : Reply) → reply ≡ r → old.stage ≡ stages.Check key → MovesAfterCheck old key r new poll → HowRead old q reply new poll
-    by_check key (replies.Versions vs) e st h = checks key vs (newest_after (shard_of old) old.trying.loader.cached vs) st e refl h
-    by_check key replies.Failed e st h = unscanned (is_scan (stages.Check key) st tt) e h.0 h.1
-    by_check key (replies.Version v) e st h = absurd h
-    by_check key (replies.Committed n) e st h = absurd h
-    by_check key replies.Mismatch e st h = absurd h
-    by_check key replies.Spent e st h = absurd h
-    by_check key replies.Truncated e st h = absurd h
-    by_check key (replies.Bytes b) e st h = absurd h
-    by_check key replies.Stored e st h = absurd h
-    by_check key replies.Deleted e st h = absurd h
+  by_scan : (r : Reply) → reply ≡ r → old.stage ≡ stages.Scan → MovesAfterScan W old q r new poll → How
+  by_scan (replies.Versions vs) e st h = looks vs (newest_after old.loader.shard old.loader.cached vs) st e refl h
+  by_scan replies.Failed e st h = unscanned (is_scan stages.Scan st tt) e h.0 h.1
+  by_scan (replies.Version v) e st h = absurd h
+  by_scan (replies.Committed n) e st h = absurd h
+  by_scan replies.Mismatch e st h = absurd h
+  by_scan replies.Spent e st h = absurd h
+  by_scan replies.Truncated e st h = absurd h
+  by_scan (replies.Bytes b) e st h = absurd h
+  by_scan replies.Stored e st h = absurd h
+  by_scan replies.Deleted e st h = absurd h
 
-    by_get : old.stage ≡ stages.Get → MovesAfterGet old q reply new poll → HowRead old q reply new poll
-    by_get st (g, fetched, moves, by) = got g fetched st moves (how_got old.getting reply g fetched moves) by
+  by_check : (key : PartKey) (r : Reply) → reply ≡ r → old.stage ≡ stages.Check key → MovesAfterCheck W old q key r new poll → How
+  by_check key (replies.Versions vs) e st h = checks key vs (newest_after old.loader.shard old.loader.cached vs) st e refl h
+  by_check key replies.Failed e st h = unscanned (is_scan (stages.Check key) st tt) e h.0 h.1
+  by_check key (replies.Version v) e st h = absurd h
+  by_check key (replies.Committed n) e st h = absurd h
+  by_check key replies.Mismatch e st h = absurd h
+  by_check key replies.Spent e st h = absurd h
+  by_check key replies.Truncated e st h = absurd h
+  by_check key (replies.Bytes b) e st h = absurd h
+  by_check key replies.Stored e st h = absurd h
+  by_check key replies.Deleted e st h = absurd h
 
-    by_stage : (stage : Stage) → old.stage ≡ stage → MovesByStage stage old q reply new poll → HowRead old q reply new poll
-    by_stage stages.Scan e h = by_scan reply refl e h
-    by_stage stages.Get e h = by_get e h
-    by_stage (stages.Check key) e h = by_check key reply refl e h
+  by_get : old.stage ≡ stages.Get → MovesAfterGet W old q reply new poll → How
+  by_get st (g, fetched, moves, by) = got g fetched st moves (how_got old.getting reply g fetched moves) by
+
+  by_stage : (stage : Stage) → old.stage ≡ stage → MovesByStage W stage old q reply new poll → How
+  by_stage stages.Scan e h = by_scan reply refl e h
+  by_stage stages.Get e h = by_get e h
+  by_stage (stages.Check key) e h = by_check key reply refl e h
+
+  pub how_read : MovesByStage W old.stage old q reply new poll → How
+  how_read m = by_stage old.stage refl m
