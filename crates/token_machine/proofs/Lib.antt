@@ -1,4 +1,5 @@
 pub mod Costs
+pub mod Effects
 pub mod Following
 pub mod Members
 pub mod Once

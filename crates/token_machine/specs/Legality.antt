@@ -1,8 +1,11 @@
 -- What it means that a command that spends a token is in, or isn't. Entries go newest first.
-use Rattle.std.specs.Prelude.{⊤, ◌≡◌, ℕ, ◌+◌, ◌<◌, Some, None, IsSome, List, ◌∷◌, ◌++◌}
+use Rattle.std.specs.Prelude.{⊤, ◌≡◌, ◌⊎◌, ℕ, ◌+◌, ◌<◌, Some, None, IsSome, List, ◌∷◌, ◌++◌}
 use Rattle.update_core.specs.declared.updates.Update.{Update}
 use Rattle.store_core.specs.declared.shards.ShardId.{ShardId}
 use Rattle.store_core.specs.declared.part_keys.PartKey.{PartKey}
+use Rattle.store_core.specs.declared.calls.Call.{Call}
+use Rattle.store_core.specs.declared.replies.Reply.{Reply}
+use Rattle.store_core.specs.declared.replies.Reply.TheVariants as replies
 use Rattle.store_core.specs.declared.entries.Entry.{Entry}
 use Rattle.store_core.specs.Stores.{Stored}
 use Rattle.store_core.specs.Histories.{reply}
@@ -19,6 +22,7 @@ use Rattle.history_core.specs.Placing.{Commits, OnlyOne, Placed, placed, places}
 use Rattle.history_core.specs.Stands.{StandsFor}
 use Rattle.load_core.specs.declared.tries.Tried.{Tried}
 use Rattle.load_core.specs.Attempts.{standing_refusal}
+use Rattle.load_core.specs.Effects.{CommitsFirst, CommitsNone, CommitsStep, IsShown}
 use Rattle.load_core.specs.Following.{FollowsTrying}
 use Rattle.load_core.specs.Outcomes.{Newest}
 use Rattle.load_core.specs.PartsFollowing.{IsStoredSoFar}
@@ -96,3 +100,11 @@ LegalStored client member token s new start e before storeds.Going = ⊤
 LegalStored client member token s new start e before storeds.Fault = ⊤
 LegalStored client member token s new start e before storeds.Strange = ⊥
 LegalStored client member token s new start e before (storeds.Damaged damage) = ⊥
+
+-- what a call has committed, by what the reply to it comes to
+abbrev pub StoredEffect : ShardId → Transition → Call → Reply → Came → Type 0
+StoredEffect shard step call r storeds.Going = CommitsNone r ⊎ CommitsFirst shard call r
+StoredEffect shard step call r storeds.Fault = r ≡ replies.Failed
+StoredEffect shard step call r (storeds.Now version) = CommitsStep shard step call r
+StoredEffect shard step call r (storeds.Damaged damage) = CommitsNone r
+StoredEffect shard step call r _ = CommitsNone r × IsShown shard call r

@@ -4,6 +4,7 @@ ghost use Rattle.std.specs.List.{AllByRecursion};
 ghost use Rattle.update_core.specs.declared.updates.Update.{Update};
 ghost use Rattle.store_core.specs.declared.calls.Call.{Call};
 ghost use Rattle.store_core.specs.declared.entries.Entry.{Entry};
+ghost use Rattle.store_core.specs.declared.replies.Reply.{Reply};
 ghost use Rattle.store_core.specs.Newest.{mine_back};
 ghost use Rattle.store_core.specs.Ports.{Answered, OfOthers};
 ghost use Rattle.store_core.specs.Stores.{Stored};
@@ -23,9 +24,9 @@ ghost use Rattle.load_core.specs.Runs.{AllCarry, IsNotIn, NoneCommits};
 ghost use Rattle.load_core.specs.Setting as setting;
 ghost use Rattle.token_machine.specs.declared.storings.Storing.{Storing};
 ghost use Rattle.token_machine.specs.Following.{FollowsStoring, IsAfter, UsesToken};
-ghost use Rattle.token_machine.specs.Legality.{LegalStored, StoresAt, StoringMoves};
+ghost use Rattle.token_machine.specs.Legality.{LegalStored, StoredEffect, StoresAt, StoringMoves};
 ghost use Rattle.token_machine.specs.Outcomes.{stored};
-ghost use Rattle.token_machine.specs.Storings.{IsSound, call_of, resumed};
+ghost use Rattle.token_machine.specs.Storings.{IsSound, Moves, call_of, resumed};
 
 /// Over a lawful history each outcome means what it says, for a member of every kind and each transition that spends its token: where
 /// it is in, by this call or an earlier one that failed, exactly one entry of the command has committed, by it; where it is refused,
@@ -70,4 +71,11 @@ pub fn storing_costs_are_kept()
         → CostAfter tried (base + new.setting.place) client new.trying start (e ∷ (others ++ es)) }
     ensures resumed { (base client : ℕ) (s : Storing) (x : Transition) (parts : Setting) (start : Stored) (es : List Entry)
         → CostEnded base client s.trying start es → CostKept (base + 3) client (resumed s x parts).trying start es }
+{}
+
+/// What a call has committed, by what its reply comes to: the transition, the shard's first version while the command goes on, or
+/// nothing, unless it failed; and a command that isn't in now ends by what a Scan has just shown.
+pub fn storings_have_effects()
+    ensures { (s new : Storing) (token : ℕ) (call : Call) (r : Reply) (tried : Tried) → IsSound s → call_of s ≡ Some call → Moves s r new tried
+        → StoredEffect s.trying.loader.shard s.trying.step call r (stored new.trying.failed token tried) }
 {}
