@@ -1,5 +1,5 @@
 -- Which polls come of a reply, and which call a reader makes.
-use Rattle.std.proofs.Common.{◌≡◌, ◌≢◌, ℕ, true, false, Option, Some, None, List, refl, sym, ap, subst, ◌∙◌}
+use Rattle.std.proofs.Common.{◌≡◌, ◌≢◌, ℕ, true, false, Option, Some, None, List, refl, sym, subst}
 use Rattle.std.specs.Prelude.{IsSome, IfSome, IsSomeAnd}
 use Rattle.update_core.specs.Frontiers.{after}
 use Rattle.store_core.specs.declared.shards.ShardId.{ShardId}

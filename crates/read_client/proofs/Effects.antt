@@ -1,6 +1,6 @@
 -- What a call of a reader commits, by what its poll comes to.
 use Rattle.std.proofs.Common.{◌≡◌, inl, inr, ℕ, Option, Some, None, refl, sym, ap, subst, ◌∙◌}
-use Rattle.std.specs.Prelude.{⊤, IsSome, IsSomeAnd}
+use Rattle.std.specs.Prelude.{IsSome, IsSomeAnd}
 use Rattle.store_core.specs.declared.shards.ShardId.{ShardId}
 use Rattle.store_core.specs.declared.calls.Call.{Call}
 use Rattle.store_core.specs.declared.replies.Reply.{Reply}
@@ -30,7 +30,7 @@ use Rattle.read_client.specs.declared.readers.Reader.{Reader}
 use Rattle.read_client.specs.Asking.{asking}
 use Rattle.read_client.specs.Machining.{Did, kept}
 use Rattle.read_client.specs.Polling.{Effect, IsRefusal}
-use Rattle.read_client.specs.Reading.{IsOpen, IsSound, Moves, MovesAfterRead, MovesAfterTry, MovesBy, after_poll, call_by, call_of, change_poll, gone_answer, in_answer, own_member, question, reading_on, shard_of, taken_back, verdict}
+use Rattle.read_client.specs.Reading.{IsOpen, IsSound, Moves, MovesBy, call_by, call_of, change_poll, gone_answer, in_answer, own_member, question, reading_on, shard_of, taken_back, verdict}
 use Rattle.read_client.proofs.Calling.{reads_carry, reads_first, tries_call, try_carries, try_first}
 use Rattle.read_client.proofs.Questioning.{IsReadAnswer, came_reads, came_shown, read_keeps}
 use Rattle.read_client.proofs.Sound.{kept_trying, lent_by}

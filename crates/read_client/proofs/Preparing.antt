@@ -13,8 +13,6 @@ use Rattle.history_core.specs.Members.{JoinedAs}
 use Rattle.load_core.specs.declared.tryings.Trying.{Trying}
 use Rattle.load_core.specs.Costing.{CostKept, IsPrepared}
 use Rattle.load_core.specs.Following.{FollowsTrying}
-use Rattle.load_core.specs.Loading.{Loading}
-use Rattle.load_core.specs.Trying as trying
 use Rattle.load_core.proofs.Following.{prepared_follows}
 use Rattle.load_core.proofs.Remaining.{prepared_cost}
 use Rattle.load_core.proofs.TryFacts.{prepared_next, prepares_is}

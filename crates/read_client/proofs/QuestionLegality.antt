@@ -22,7 +22,6 @@ use Rattle.load_core.specs.declared.polls.Poll.{Poll}
 use Rattle.load_core.specs.declared.polls.Poll.TheVariants as polls
 use Rattle.load_core.specs.Trying as trying
 use Rattle.machine_core.specs.Machines as machines
-use Rattle.read_machine.specs.declared.readings.Reading.{Reading}
 use Rattle.read_machine.specs.Readings as readings
 use Rattle.read_client.specs.declared.questions.Question.{Question}
 use Rattle.read_client.specs.declared.questions.Question.TheVariants as questions
@@ -31,9 +30,8 @@ use Rattle.read_client.specs.Asking.{QuestionLegal as LegalAsked, QuestionReads 
 use Rattle.read_client.specs.Following.{Follows}
 use Rattle.read_client.specs.Machining.{command_in, kept}
 use Rattle.read_client.specs.Polling.{ReadsParts}
-use Rattle.read_client.specs.Reading.{AsksAs, IsLent, IsOpen, IsSound, MovesAfterRead, call_of, question, reading_on, shard_of, taken_back}
+use Rattle.read_client.specs.Reading.{AsksAs, IsLent, IsOpen, IsSound, MovesAfterRead, call_of, question, shard_of}
 use Rattle.read_client.proofs.Changing.{is_there}
-use Rattle.read_client.proofs.Effects.{counted_more}
 use Rattle.read_client.proofs.FollowsOn.{read_asking, read_called}
 use Rattle.read_client.proofs.LegalPolls.{LegalOf, LegalPoll, legal_poll}
 use Rattle.read_client.proofs.Questioning.{read_keeps}

@@ -1,5 +1,5 @@
 -- What holds of a snapshot and of a step, as questions. Entries go newest first.
-use Rattle.std.proofs.Common.{◌≡◌, ℕ, Option, Some, None, List, [], ◌∷◌, ◌++◌, refl, sym, ap, subst, ◌∙◌}
+use Rattle.std.proofs.Common.{◌≡◌, ℕ, Option, Some, None, List, [], ◌∷◌, refl, sym, ap, subst, ◌∙◌}
 use Rattle.std.specs.Prelude.{⊤, IsSomeAnd, nat_le}
 use Rattle.std.specs.List.{AllByRecursion}
 use Rattle.std.specs.Ordering.{is_lt}
@@ -173,8 +173,11 @@ module _ (client : ℕ) (shard : ShardId) (member calls : ℕ) (list : List Upda
           let stand = stand_back start (scan ∷ before) later shard list at.stands at.lawful s.number s last_now f s.upper
           (slice_of now f s.upper) (h now) client rows held2 in
           let slices2 : slice_of rows f s.upper ≡ slice_of there f s.upper = slices ∙ ap (λ (us : List Update). slice_of us f s.upper) now_is in (
-            (refl, reads_at (λ c. listen_answer c f ≡ step (slice_of rows f s.upper) s.upper)
-                (h there ∙ ap (λ (us : List Update). step us s.upper) (sym slices2))),
+            (
+              refl,
+              reads_at (λ c. listen_answer c f ≡ step (slice_of rows f s.upper) s.upper)
+                  (h there ∙ ap (λ (us : List Update). step us s.upper) (sym slices2)),
+            ),
             (
               parts_at (step_keys f) rows held2,
               each_intro (RowGot start shard ps) (slice_of rows f s.upper)

@@ -1,6 +1,6 @@
 -- A reader is sound after its next call is prepared and after what a reply comes to.
-use Rattle.std.proofs.Common.{◌≡◌, ℕ, Bool, true, false, Option, Some, None, Result, Ok, ◌⊎◌, inl, inr, refl, sym, ap, subst, ◌∙◌}
-use Rattle.std.specs.Prelude.{⊤, IsSome, IfSome, IsSomeAnd, is_some, not}
+use Rattle.std.proofs.Common.{◌≡◌, ℕ, Bool, true, false, Option, Some, None, Result, ◌⊎◌, inl, inr, refl, sym, ap, subst, ◌∙◌}
+use Rattle.std.specs.Prelude.{⊤, IsSome, IfSome}
 use Rattle.store_core.specs.declared.shards.ShardId.{ShardId}
 use Rattle.store_core.specs.declared.replies.Reply.{Reply}
 use Rattle.state_core.specs.declared.refusals.Refusal.{Refusal}
@@ -32,8 +32,8 @@ use Rattle.read_machine.proofs.Sound.{Ends}
 use Rattle.read_machine.proofs.Ways.{Stays}
 use Rattle.read_client.specs.declared.questions.Question.{Question}
 use Rattle.read_client.specs.declared.readers.Reader.{Reader}
-use Rattle.read_client.specs.Asking.{asking, question_of}
-use Rattle.read_client.specs.Reading.{AsksAs, IsAsked, IsLent, IsOpen, IsSound, Moves, MovesAfterRead, MovesAfterTry, MovesBy, Wants, WantsBy, after_poll, change_poll, given_back, own_member, question, reading_on, taken_back, verdict}
+use Rattle.read_client.specs.Asking.{asking}
+use Rattle.read_client.specs.Reading.{AsksAs, IsLent, IsOpen, IsSound, Moves, MovesAfterRead, MovesAfterTry, MovesBy, Wants, WantsBy, after_poll, change_poll, given_back, own_member, question, reading_on, taken_back, verdict}
 
 -- nothing is asked of a closed reader
 pub no_open : (r : Reader) → IsOpen r → r.asked ≡ None → ⊥

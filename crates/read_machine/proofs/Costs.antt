@@ -1,6 +1,5 @@
 -- A reply to a reading keeps its cost.
 use Rattle.std.proofs.Common.{◌≡◌, ℕ, suc, ◌+◌, ◌<◌, ◌≤◌, Some, List, [], ◌∷◌, ◌++◌, length, inl, inr, refl, sym, ap, subst, ◌∙◌, arith}
-use Rattle.std.specs.Prelude.{⊤}
 use Rattle.store_core.specs.declared.shards.ShardId.{ShardId}
 use Rattle.store_core.specs.declared.part_keys.PartKey.{PartKey}
 use Rattle.store_core.specs.declared.calls.Call.{Call}
@@ -35,7 +34,7 @@ use Rattle.read_machine.specs.declared.stages.Stage.TheVariants as stages
 use Rattle.read_machine.specs.Courses.{GoesBy, MovesByFetched, counted, holding, missing_poll, read_call, rows_poll, sight_of, sight_poll, staged}
 use Rattle.read_machine.specs.Following.{OverStage, ReadCost}
 use Rattle.read_machine.specs.Questions.{Questions}
-use Rattle.read_machine.proofs.HowRead.{HowGot, HowRead, IsScanStage, checked, damaged, fails, gains, got, heavy, misses, scanned, spoilt, unscanned}
+use Rattle.read_machine.proofs.HowRead.{HowGot, HowRead, checked, damaged, fails, gains, got, heavy, misses, scanned, spoilt, unscanned}
 use Rattle.read_machine.proofs.Parts.{Asks, scans, gets, asks_call}
 use Rattle.read_machine.proofs.Sound.{Ends, HowSight, answers, empty, gone, how_sight, missing_ends, parts, rows_ends, strange}
 

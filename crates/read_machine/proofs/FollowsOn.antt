@@ -1,13 +1,12 @@
 -- A reading follows from its client's own entries also after one more. Entries go newest first.
-use Rattle.std.proofs.Common.{◌≡◌, ℕ, ◌+◌, ◌<◌, min, Bool, true, false, Option, Some, None, Ok, List, [], ◌∷◌, ◌++◌, take, inl, inr, refl, sym, ap, subst, ◌∙◌, arith}
-use Rattle.std.specs.Prelude.{nat_lt, ◌&&◌, IfSome, IsSomeAnd}
+use Rattle.std.proofs.Common.{◌≡◌, ℕ, ◌+◌, min, Option, Some, None, Ok, List, [], ◌∷◌, ◌++◌, take, inl, inr, refl, sym, ap, subst, ◌∙◌, arith}
+use Rattle.std.specs.Prelude.{IfSome, IsSomeAnd}
 use Rattle.std.specs.Option.{option_map}
 use Rattle.update_core.specs.declared.updates.Update.{Update}
 use Rattle.part_codec.proofs.Fields.{IsBytes}
 use Rattle.store_core.specs.declared.shards.ShardId.{ShardId}
 use Rattle.store_core.specs.declared.part_keys.PartKey.{PartKey}
 use Rattle.store_core.specs.declared.versions.Version.{Version}
-use Rattle.store_core.specs.declared.calls.Call.{Call}
 use Rattle.store_core.specs.declared.calls.Call.TheVariants as calls
 use Rattle.store_core.specs.declared.replies.Reply.{Reply}
 use Rattle.store_core.specs.declared.replies.Reply.TheVariants as replies
@@ -18,7 +17,7 @@ use Rattle.store_core.specs.Ports.{Answered, OfOthers, answered}
 use Rattle.store_core.specs.Newest.{mine_back, replay_back}
 use Rattle.state_core.specs.States.{ShardState}
 use Rattle.state_core.specs.VersionReading.{most}
-use Rattle.history_core.specs.Discipline.{GotAs, Hold, LawfulBack, ShowsState}
+use Rattle.history_core.specs.Discipline.{LawfulBack, ShowsState}
 use Rattle.history_core.specs.Laws.{LastIs}
 use Rattle.history_core.specs.Members.{JoinedAs}
 use Rattle.history_core.specs.Placing.{IsAnsweredScan, placed}
@@ -35,7 +34,6 @@ use Rattle.load_core.specs.Following.{FollowsLoading}
 use Rattle.load_core.specs.Getting as getting
 use Rattle.load_core.specs.Loading.{Loading, newest_after, scan_from, scan_of}
 use Rattle.load_core.specs.PartsFollowing.{BringsBytes}
-use Rattle.load_core.specs.Trying.{more}
 use Rattle.load_core.proofs.Following.{newest_shows, shows_on}
 use Rattle.load_core.proofs.GettingFollows.{got_later, still_got}
 use Rattle.load_core.proofs.Scanned.{newest_last, scan_answer}
@@ -44,7 +42,7 @@ use Rattle.read_machine.specs.declared.sights.Sight.{Sight}
 use Rattle.read_machine.specs.declared.sights.Sight.TheVariants as sights
 use Rattle.read_machine.specs.declared.stages.Stage.{Stage}
 use Rattle.read_machine.specs.declared.stages.Stage.TheVariants as stages
-use Rattle.read_machine.specs.Courses.{GoesBy, MovesByFetched, counted, expired, holding, missing_poll, read_call, rows_poll, sight_of, sight_poll, staged, strange}
+use Rattle.read_machine.specs.Courses.{GoesBy, MovesByFetched, counted, holding, missing_poll, read_call, rows_poll, sight_of, sight_poll, staged}
 use Rattle.read_machine.specs.Following.{FollowsAsked, FollowsStage, IsRead, SinceGot, SinceMissing}
 use Rattle.read_machine.specs.Questions.{IsQuestion, Questions}
 use Rattle.read_machine.specs.Readings.{IsGetting, SoundBy}

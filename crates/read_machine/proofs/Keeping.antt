@@ -1,5 +1,5 @@
 -- What holds of a machine whose commands each ask a shard a question. Entries go newest first.
-use Rattle.std.proofs.Common.{◌≡◌, ◌≢◌, ◌+◌, ◌<◌, ◌≤◌, ◌^◌, ℕ, true, false, Option, Some, None, List, [], ◌∷◌, ◌++◌, length, inl, refl, sym, ap, subst, ◌∙◌, arith}
+use Rattle.std.proofs.Common.{◌≡◌, ◌≢◌, ◌+◌, ◌<◌, ◌≤◌, ◌^◌, ℕ, true, false, Option, Some, None, List, ◌∷◌, ◌++◌, length, inl, refl, sym, ap, subst, ◌∙◌, arith}
 use Rattle.std.specs.Prelude.{IfSome, IsSome, IsSomeAnd, filter}
 use Rattle.update_core.specs.declared.updates.Update.{Update}
 use Rattle.store_core.specs.declared.shards.ShardId.{ShardId}
@@ -23,7 +23,6 @@ use Rattle.load_core.specs.declared.polls.Poll.TheVariants as polls
 use Rattle.load_core.specs.Effects.{CommitsNone}
 use Rattle.load_core.specs.Following.{FollowsLoading}
 use Rattle.load_core.specs.Getting as getting
-use Rattle.load_core.specs.Loading.{scan_from}
 use Rattle.load_core.specs.Trying.{more}
 use Rattle.load_core.proofs.Following.{shows_on}
 use Rattle.machine_core.specs.Machines.{Asking, Called, CostPoll, Ending, GoesOn, IsReading, Keeps, LegalPoll, reply_there}
@@ -31,10 +30,10 @@ use Rattle.read_machine.specs.declared.courses.Course.{Course}
 use Rattle.read_machine.specs.declared.readings.Reading.{Reading}
 use Rattle.read_machine.specs.declared.stages.Stage.{Stage}
 use Rattle.read_machine.specs.declared.stages.Stage.TheVariants as stages
-use Rattle.read_machine.specs.Courses.{MovesByStage, counted, read_call}
+use Rattle.read_machine.specs.Courses.{counted, read_call}
 use Rattle.read_machine.specs.Following.{FollowsAsked, ReadCost}
 use Rattle.read_machine.specs.Questions.{IsQuestion, Questions}
-use Rattle.read_machine.specs.Readings.{Did, DidBy, Ended, Follows, IsGetting, IsReading as IsReadingAt, IsSound, Moves, MovesBy, ReadKept, ReadsOf, SoundBy, asked_after, kept, words}
+use Rattle.read_machine.specs.Readings.{Did, DidBy, Follows, IsGetting, IsReading as IsReadingAt, IsSound, Moves, MovesBy, ReadKept, ReadsOf, SoundBy, asked_after, kept, words}
 use Rattle.read_machine.proofs.Costs.{CostAfter, read_cost}
 use Rattle.read_machine.proofs.FollowsOn.{counted_on, read_on, shown_still}
 use Rattle.read_machine.proofs.HowRead.{HowRead, how_read}

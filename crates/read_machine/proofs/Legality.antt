@@ -1,7 +1,7 @@
 -- What a reading is answered is legal, and nothing that it reads is damaged. Entries go newest first.
 use Rattle.std.proofs.Common.{◌≡◌, ℕ, ◌+◌, ◌<◌, ◌^◌, Bool, true, false, cond, Option, Some, None, Ok, Err, List, [], ◌∷◌, ◌++◌, inl, inr, refl, sym, ap, subst, ◌∙◌, arith, take}
 use Rattle.std.specs.Prelude.{⊤, IsSomeAnd, is_none}
-use Rattle.std.specs.List.{AllByRecursion, slice_get}
+use Rattle.std.specs.List.{slice_get}
 use Rattle.std.proofs.lemmas.Bool.{eq-eqb}
 use Rattle.update_core.specs.declared.updates.Update.{Update}
 use Rattle.update_core.specs.Updates.{weight_of}
@@ -26,7 +26,7 @@ use Rattle.state_core.proofs.ListLemmas.{each_map}
 use Rattle.history_core.specs.Accepting.{is_cas}
 use Rattle.history_core.specs.Discipline.{GotAs, Hold, IsGot, LawfulBack}
 use Rattle.history_core.specs.Laws.{LastIs}
-use Rattle.history_core.specs.Legal.{Absent, AtLast, HasMember}
+use Rattle.history_core.specs.Legal.{AtLast, HasMember}
 use Rattle.history_core.specs.Members.{JoinedAs}
 use Rattle.history_core.specs.Placing.{AtLastScan, IsAnsweredScan, Placed, placed, places}
 use Rattle.history_core.specs.Readings.{rows_in}
@@ -47,7 +47,7 @@ use Rattle.load_core.specs.PartsFollowing.{BringsBytes, IsGotSoFar}
 use Rattle.load_core.specs.Trying.{more}
 use Rattle.load_core.proofs.GettingFollows.{all_got, got_later, still_got}
 use Rattle.load_core.proofs.Scanned.{undamaged}
-use Rattle.change_core.specs.Changes.{is_gone, number_of}
+use Rattle.change_core.specs.Changes.{is_gone}
 use Rattle.change_core.proofs.Members.{found_kind, found_stands, kind_back, none_stands, places_now}
 use Rattle.read_machine.specs.declared.courses.Course.{Course}
 use Rattle.read_machine.specs.declared.looks.Look.TheVariants as looks
@@ -55,11 +55,11 @@ use Rattle.read_machine.specs.declared.sights.Sight.{Sight}
 use Rattle.read_machine.specs.declared.sights.Sight.TheVariants as sights
 use Rattle.read_machine.specs.declared.stages.Stage.{Stage}
 use Rattle.read_machine.specs.declared.stages.Stage.TheVariants as stages
-use Rattle.read_machine.specs.Courses.{GoesBy, MovesByFetched, counted, expired, holding, missing_poll, read_call, rows_by, rows_poll, sight_of, sight_poll}
+use Rattle.read_machine.specs.Courses.{MovesByFetched, counted, expired, holding, missing_poll, read_call, rows_by, rows_poll, sight_of, sight_poll}
 use Rattle.read_machine.specs.Following.{FollowsAsked, FollowsStage, IsRead, SinceGot, SinceMissing}
-use Rattle.read_machine.specs.Questions.{IsQuestion, NoScanOf, Questions, ShownAt, own_count, since}
+use Rattle.read_machine.specs.Questions.{IsQuestion, NoScanOf, Questions, ShownAt, own_count}
 use Rattle.read_machine.specs.Readings.{IsGetting, SoundBy}
-use Rattle.read_machine.proofs.FollowsOn.{get_is, scan_done, scan_is, scan_last, staged_is}
+use Rattle.read_machine.proofs.FollowsOn.{get_is, scan_done, scan_is, scan_last}
 use Rattle.read_machine.proofs.HowRead.{HowGot, HowRead, IsScanStage, checked, damaged, fails, gains, got, heavy, misses, scanned, spoilt, unscanned}
 use Rattle.read_machine.proofs.Parts.{names_key, some_parts}
 use Rattle.read_machine.proofs.Places.{gone_back, joined_owns, next_count}

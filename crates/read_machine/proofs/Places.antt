@@ -1,13 +1,9 @@
 -- Where the calls of a reading stand in a history. Entries go newest first.
-use Rattle.std.proofs.Common.{◌≡◌, ℕ, zero, suc, ◌+◌, ◌<◌, true, false, Option, None, List, [], ◌∷◌, ◌++◌, inl, inr, sym, ap, subst, ◌∙◌, arith, eqb}
+use Rattle.std.proofs.Common.{◌≡◌, ℕ, zero, suc, ◌+◌, ◌<◌, true, false, None, List, [], ◌∷◌, ◌++◌, inl, inr, sym, ap, subst, ◌∙◌, arith, eqb}
 use Rattle.std.specs.Prelude.{reverse}
-use Rattle.std.specs.List.{AllByRecursion}
 use Rattle.std.proofs.lemmas.Bool.{eq-eqb, eqb-true}
 use Rattle.std.proofs.lemmas.List.{reverse-append, reverse-reverse}
-use Rattle.update_core.specs.declared.rows.Row.{Row}
 use Rattle.update_core.specs.declared.updates.Update.{Update}
-use Rattle.update_core.specs.Updates.{sum_of, slice_of}
-use Rattle.update_core.specs.Collections.{snapshot_answer, listen_answer, content, step}
 use Rattle.store_core.specs.declared.shards.ShardId.{ShardId}
 use Rattle.store_core.specs.declared.part_keys.PartKey.{PartKey}
 use Rattle.store_core.specs.declared.entries.Entry.{Entry}
@@ -17,26 +13,21 @@ use Rattle.store_core.specs.Ports.{Answered, with_entries}
 use Rattle.store_core.specs.Newest.{mine_back, replay_back}
 use Rattle.store_core.proofs.NewestLaws.{mine-newest, replay-newest}
 use Rattle.state_core.specs.declared.kinds.Kind.{Kind}
-use Rattle.state_core.specs.Lists.{Among}
-use Rattle.state_core.specs.States.{Names, ShardState, is_writer, keys_of}
+use Rattle.state_core.specs.States.{Names, ShardState, is_writer}
 use Rattle.state_core.specs.Steps.{Stands}
 use Rattle.state_core.specs.VersionReading.{most}
 use Rattle.state_core.proofs.ListLemmas.{among_map, bool_cases}
 use Rattle.history_core.specs.Accepting.{is_cas}
 use Rattle.history_core.specs.Answers.{own_of, own_past}
-use Rattle.history_core.specs.Discipline.{GotAs, Hold, IsGot, IsJoin, Lawful, LawfulBack, Owns}
+use Rattle.history_core.specs.Discipline.{GotAs, IsGot, IsJoin, Lawful, LawfulBack, Owns}
 use Rattle.history_core.specs.Laws.{LastIs}
-use Rattle.history_core.specs.Legal.{collection_in}
 use Rattle.history_core.specs.Members.{IsKindJoin, JoinedAs}
 use Rattle.history_core.specs.Placing.{AtLastScan, GotSinceScan, IsAnsweredScan, Placed, placed, places}
-use Rattle.history_core.specs.Questions.{begun_by, ending_past}
-use Rattle.history_core.specs.Stands.{StandsFor, accepted}
+use Rattle.history_core.specs.Stands.{StandsFor}
 use Rattle.history_core.specs.StretchLaws.{NoCasOf}
-use Rattle.history_core.proofs.GotRows.{rows_law, step_law}
 use Rattle.history_core.proofs.Holding.{missing_law}
 use Rattle.history_core.proofs.LawfulLaws.{store_both, turned}
 use Rattle.history_core.proofs.MemberStands.{is_join}
-use Rattle.history_core.proofs.StepStands.{rows_stand_law}
 use Rattle.history_core.proofs.Walking.{all_back}
 use Rattle.load_core.specs.Trying.{more}
 use Rattle.load_core.proofs.Gaining.{lawful_forth}

@@ -1,6 +1,6 @@
 -- A reading is sound after what a reply comes to.
 use Rattle.std.proofs.Common.{◌≡◌, ℕ, Bool, true, false, Option, Some, None, List, [], ◌∷◌, inl, inr, refl, sym, ap, subst, ◌∙◌, arith}
-use Rattle.std.specs.Prelude.{⊤, IsSome, IfSome, IsSomeAnd, if◌then◌else◌}
+use Rattle.std.specs.Prelude.{⊤, IfSome, IsSomeAnd, if◌then◌else◌}
 use Rattle.store_core.specs.declared.part_keys.PartKey.{PartKey}
 use Rattle.store_core.specs.declared.replies.Reply.{Reply}
 use Rattle.state_core.specs.declared.members.Member.{Member}

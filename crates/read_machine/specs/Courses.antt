@@ -1,5 +1,5 @@
 -- Where the reading of a shard stands: what comes next, and what a reply makes of it.
-use Rattle.std.specs.Prelude.{⊤, ◌≡◌, ℕ, Option, Some, None, IsSomeAnd, if◌then◌else◌, Result, Ok, Err, List, [], ◌∷◌}
+use Rattle.std.specs.Prelude.{⊤, ◌≡◌, ℕ, Option, Some, None, if◌then◌else◌, Result, Ok, Err, List, [], ◌∷◌}
 use Rattle.update_core.specs.declared.updates.Update.{Update}
 use Rattle.store_core.specs.declared.part_keys.PartKey.{PartKey}
 use Rattle.store_core.specs.declared.calls.Call.{Call}

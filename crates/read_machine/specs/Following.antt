@@ -51,11 +51,11 @@ pub record SinceGot (kind : Kind) (client : ℕ) (c : Course) (start : Stored) (
 -- no bytes lay under the key when it was last asked for, since that Scan
 pub record SinceMissing (kind : Kind) (client : ℕ) (c : Course) (start : Stored) (es : List Entry) (key : PartKey) (s : ShardState) : Type 0
   where
-  pub since : SinceScan kind client c start es s
-  pub rest : List Entry
-  pub mid : List Entry
-  pub parted : since.later ≡ rest ++ mid
-  pub missing : (replay_back start (mid ++ (since.scan ∷ since.before))).blobs key ≡ None
+    pub since : SinceScan kind client c start es s
+    pub rest : List Entry
+    pub mid : List Entry
+    pub parted : since.later ≡ rest ++ mid
+    pub missing : (replay_back start (mid ++ (since.scan ∷ since.before))).blobs key ≡ None
 
 -- what is known, by the stage
 abbrev pub FollowsStage : Kind → ℕ → Course → Stored → List Entry → Stage → Type 0

@@ -1,5 +1,5 @@
 -- A machine whose commands each ask a shard a question. Entries go newest first.
-use Rattle.std.specs.Prelude.{⊤, ◌≡◌, ◌≢◌, ℕ, ◌<◌, Option, Some, None, IsSome, IfSome, IsSomeAnd, List}
+use Rattle.std.specs.Prelude.{⊤, ◌≡◌, ℕ, ◌<◌, Option, Some, None, IsSome, IfSome, IsSomeAnd, List}
 use Rattle.update_core.specs.declared.updates.Update.{Update}
 use Rattle.store_core.specs.declared.shards.ShardId.{ShardId}
 use Rattle.store_core.specs.declared.calls.Call.{Call}

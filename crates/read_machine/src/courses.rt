@@ -151,7 +151,11 @@ impl Course {
     }
 
     // What the newest state shows, where nothing newer came.
-    fn sight_again<Q: Question>(&self, alloc: Global, question: &Q) -> Result<Sight<Q::Answer>, AllocError>
+    fn sight_again<Q: Question>(
+        &self,
+        alloc: Global,
+        question: &Q,
+    ) -> Result<Sight<Q::Answer>, AllocError>
         ensures { IfOk result (λ sight. IfSome self.now.loader.cached (λ s. sight ≡ sight_of Q.question question.now s self.now.member)) }
     {
         match self.loader.state() {
@@ -161,7 +165,12 @@ impl Course {
     }
 
     // What the newest state comes to, by what it shows.
-    fn go_by<Q: Question>(&mut self, alloc: Global, question: &Q, sight: Sight<Q::Answer>) -> Poll<Q::Answer>
+    fn go_by<Q: Question>(
+        &mut self,
+        alloc: Global,
+        question: &Q,
+        sight: Sight<Q::Answer>,
+    ) -> Poll<Q::Answer>
         requires getting { getting.IsSound self.old.getting }
         ensures poll { result ≡ sight_poll Q.question self.old question.now sight }
         ensures staged { self.new ≡ staged self.old sight }
@@ -313,7 +322,11 @@ fn sight_of<Q: Question>(
 }
 
 // The same of a member that asks: no parts are answered from no rows.
-fn look_sight<Q: Question>(alloc: Global, question: &Q, state: &State) -> Result<Sight<Q::Answer>, AllocError>
+fn look_sight<Q: Question>(
+    alloc: Global,
+    question: &Q,
+    state: &State,
+) -> Result<Sight<Q::Answer>, AllocError>
     ensures { IfOk result (λ sight. sight ≡ look_sight Q.question question.now state.now (Q.question.look question.now state.now)) }
 {
     match question.look(alloc, state)? {
