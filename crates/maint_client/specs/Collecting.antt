@@ -132,6 +132,7 @@ pub record AsksFor (shard : ShardId) (w : Sweep) (vs : List Version) : Type 0 wh
   pub asked : sweep_of shard vs ≡ Ok first
   pub floor : first.floor ≡ w.floor
   pub keys : first.keys ≡ w.keys
+  pub cuts : w.cut ≡ true → first.cut ≡ true
 
 -- the call was a Scan from 0, answered with versions that ask for this collection
 abbrev pub IsScanFor : ShardId → Sweep → Call → Reply → Type 0
