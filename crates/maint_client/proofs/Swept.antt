@@ -52,14 +52,14 @@ key_among [] n k e = absurd (cc)
 key_among (q ∷ qs) zero k e = inl (cc)
 key_among (q ∷ qs) (suc n) k e = inr (key_among qs n k e)
 
-at_scan : (shard : ShardId) (P Q : Placed → Type 0) (ps : List Placed) → ((p : Placed) → P p → Q p) → AtLastScan shard P ps → AtLastScan shard Q ps
+pub at_scan : (shard : ShardId) (P Q : Placed → Type 0) (ps : List Placed) → ((p : Placed) → P p → Q p) → AtLastScan shard P ps → AtLastScan shard Q ps
 at_scan shard P Q [] f h = absurd h
 at_scan shard P Q (p ∷ ps) f (inl h) = inl (h.0, f p h.1)
 at_scan shard P Q (p ∷ ps) f (inr h) = inr (h.0, at_scan shard P Q ps f h.1)
 
 -- ---- versions that are gone stay so
 
-first_rises : (shard : ShardId) (before : Stored) (call : Call) (outcome : Outcome) →
+pub first_rises : (shard : ShardId) (before : Stored) (call : Call) (outcome : Outcome) →
     (before.logs shard).first ≤ ((after_outcome before call outcome).logs shard).first
 first_rises shard before call outcome = go (log_step shard before call outcome)
   where
