@@ -47,7 +47,7 @@ each_next P [] n k e all p = absurd (cc)
 each_next P (q ∷ qs) zero k e all p = (let same : k ≡ q = cc in subst P same p, tt)
 each_next P (q ∷ qs) (suc n) k e all p = (all.0, each_next P qs n k e all.1 p)
 
-key_among : (keys : List PartKey) (n : ℕ) (k : PartKey) → slice_get keys n ≡ Some k → Has keys k
+pub key_among : (keys : List PartKey) (n : ℕ) (k : PartKey) → slice_get keys n ≡ Some k → Has keys k
 key_among [] n k e = absurd (cc)
 key_among (q ∷ qs) zero k e = inl (cc)
 key_among (q ∷ qs) (suc n) k e = inr (key_among qs n k e)
@@ -172,7 +172,7 @@ module _ (client : ℕ) (shard : ShardId) (start : Stored) where
   -- ---- what may be called
 
   -- a Scan that asks for a collection takes each of its keys
-  scan_takes : (w : Sweep) (k : PartKey) (call : Call) (r : Reply) → IsScanFor shard w call r → Has w.keys k → k.shard ≡ shard → IsScanTaking k call r
+  pub scan_takes : (w : Sweep) (k : PartKey) (call : Call) (r : Reply) → IsScanFor shard w call r → Has w.keys k → k.shard ≡ shard → IsScanTaking k call r
   scan_takes w k call r (is, (vs, answer, asks)) has of =
       let a = sweep_asks shard vs asks.first asks.asked in
       let taken = a.only k (subst (λ (ks : List PartKey). Has ks k) (sym asks.keys) has) in
@@ -185,7 +185,7 @@ module _ (client : ℕ) (shard : ShardId) (start : Stored) where
       ]
 
   -- and covers what lies below its floor once all of them are deleted
-  scan_covers : (own : List Answered) (w : Sweep) (call : Call) (r : Reply) → IsScanFor shard w call r → AllByRecursion (DeletedBy own) w.keys →
+  pub scan_covers : (own : List Answered) (w : Sweep) (call : Call) (r : Reply) → IsScanFor shard w call r → AllByRecursion (DeletedBy own) w.keys →
       w.cut ≡ true → IsScanCovering own shard w.floor call r
   scan_covers own w call r (is, (vs, answer, asks)) all some =
       subst (λ (c : Call). IsScanCovering own shard w.floor c r) (sym is) (subst (IsScanCovering own shard w.floor (calls.Scan shard 0)) (sym answer) (refl, refl, by (sweep_asks shard vs asks.first asks.asked)))

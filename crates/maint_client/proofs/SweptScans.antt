@@ -67,7 +67,7 @@ takes_of : (o : Option (ShardState × Transition)) (k : PartKey) → TakesIn o k
 takes_of (Some (s, x)) k h = (s, x, refl, h)
 takes_of None k h = absurd h
 
-not_below : (n at : ℕ) → nat_lt n at ≡ false → at ≤ n
+pub not_below : (n at : ℕ) → nat_lt n at ≡ false → at ≤ n
 not_below n at h = grind (arith, nat_tests)
 
 module _ (client : ℕ) (shard : ShardId) (start : Stored) (list : List Update) (st : StandsFor start shard list) where
