@@ -74,11 +74,11 @@ next shard w s = elim (slice_get_cases w.keys w.place).1 [
 ]
 
 -- a command that is open
-of_open : (o : Option Asked) (P : Type 0) → IsSome o → IfSome o (λ a. P) → P
+pub of_open : (o : Option Asked) (P : Type 0) → IsSome o → IfSome o (λ a. P) → P
 of_open None P is h = absurd (let bad : false ≡ true = is in cc)
 of_open (Some a) P is h = h
 
-for_any : (o : Option Asked) (P : Type 0) → P → IfSome o (λ a. P)
+pub for_any : (o : Option Asked) (P : Type 0) → P → IfSome o (λ a. P)
 for_any None P h = tt
 for_any (Some a) P h = h
 
@@ -130,7 +130,7 @@ answered_took store call Took h = refl
 answered_took store call FailedTook h = absurd (h refl)
 answered_took store call FailedLost h = absurd (h refl)
 
-no_delete : (call : Call) (o : Outcome) → o ≢ Took → delete_of call o ≡ 0
+pub no_delete : (call : Call) (o : Outcome) → o ≢ Took → delete_of call o ≡ 0
 no_delete call Took h = absurd (h refl)
 no_delete (calls.Delete k) FailedTook h = refl
 no_delete (calls.Delete k) FailedLost h = refl
@@ -152,10 +152,10 @@ module _ (client : ℕ) (m new : Collector) (call : Call) (poll : Poll CollectAn
   before : LawfulBack start (others ++ es)
   before = lawful_older start e (others ++ es) c.lawful
 
-  call_is : e.call ≡ call_after m.shard m.sweep
+  pub call_is : e.call ≡ call_after m.shard m.sweep
   call_is = c.call_is ∙ (let is = a.call_is in let same : call_after m.shard m.sweep ≡ call = cc in sym same)
 
-  follows_here : FollowsCommand client m start es
+  pub follows_here : FollowsCommand client m start es
   follows_here = of_open m.asked (FollowsCommand client m start es) a.is_open a.follows
 
   abbrev Here : List Entry
@@ -178,12 +178,12 @@ module _ (client : ℕ) (m new : Collector) (call : Call) (poll : Poll CollectAn
   place_now lt = place client m.shard start m.calls (more m.calls) e (others ++ es) refl c.own lt ∙
       ap (λ ps. placed e (others ++ es) ∷ ps) (places_others client m.calls others es c.of_others)
 
-  failed_now : more m.calls < most → failed_calls client (more m.calls) (e ∷ (others ++ es)) ≡ faults_of e.outcome + failed_calls client m.calls es
+  pub failed_now : more m.calls < most → failed_calls client (more m.calls) (e ∷ (others ++ es)) ≡ faults_of e.outcome + failed_calls client m.calls es
   failed_now lt =
       let next_is : more m.calls ≡ suc m.calls = omega arith in
       ap (λ (n : ℕ). failed_calls client n (e ∷ (others ++ es))) next_is ∙ failed_next client m.calls e others es c.own c.of_others
 
-  deletes_now : more m.calls < most → deletes_of (places client (more m.calls) (e ∷ (others ++ es))) ≡ delete_of e.call e.outcome + deleted_by m.sweep
+  pub deletes_now : more m.calls < most → deletes_of (places client (more m.calls) (e ∷ (others ++ es))) ≡ delete_of e.call e.outcome + deleted_by m.sweep
   deletes_now lt = ap deletes_of (place_now lt) ∙ ap (λ (n : ℕ). delete_of e.call e.outcome + n) (follows_here.deletes (omega arith))
 
   of_reply : reply_there start e others es ≢ replies.Failed → e.outcome ≡ Took
