@@ -22,11 +22,11 @@ use Rattle.history_core.proofs.Gaining.{places_others}
 use Rattle.load_core.specs.declared.polls.Poll.{Poll}
 use Rattle.load_core.specs.declared.polls.Poll.TheVariants as polls
 use Rattle.load_core.specs.Trying.{more}
-use Rattle.machine_core.specs.Machines.{Asking, Called, CostPoll, GoesOn, IsReading, Keeps, LegalPoll, reply_there}
+use Rattle.machine_core.specs.Machines.{Asking, Called, CostPoll, Ending, GoesOn, IsReading, Keeps, LegalPoll, reply_there}
 use Rattle.maint_client.specs.declared.collectors.Collector.{Collector}
 use Rattle.maint_client.specs.declared.sweeps.Sweep.{Sweep}
-use Rattle.maint_client.specs.Sweeping.{goes_on}
-use Rattle.maint_client.specs.Collecting.{CostBy, CostEnded, Follows, FollowsCommand, FollowsSweep, IsOpen, IsScanFor, Moves, Wants, call_after, collecting, command, counted, deleted_by, kept, remaining}
+use Rattle.maint_client.specs.Sweeping.{IsSweep, goes_on}
+use Rattle.maint_client.specs.Collecting.{CostBy, CostEnded, Follows, FollowsCommand, FollowsSweep, IsOpen, IsScanFor, IsSound, Moves, Wants, call_after, collecting, command, counted, deleted_by, kept, remaining}
 use Rattle.maint_client.proofs.Swept.{at_scan, sweep_failed, sweep_others}
 use Rattle.maint_client.proofs.SweptScans.{ended_legal}
 use Rattle.maint_client.proofs.CollectWays.{effect, ended, fault_failed, goes_as, more_answered, moved_counted, moved_kept, moved_open, moved_shard, never_busy}
@@ -59,6 +59,9 @@ idle_follows client m start es closed = by m.asked closed
     by : (o : Option Asked) → ¬ IsSome o → IfSome o (λ a. FollowsCommand client m start es)
     by None none = tt
     by (Some a) none = absurd (none refl)
+
+pub closed_is : (o : Option Asked) → o ≡ None → ¬ IsSome o
+closed_is o e is = let bad : false ≡ true = subst (λ (q : Option Asked). IsSome q) e is in cc
 
 -- ---- at an entry's place
 
@@ -183,4 +186,23 @@ keeps = record {
     ap (λ (d : Collector). Some (call_after d.shard d.sweep)) h.1 ∙ is,
   );
   wanted_follows = λ client m new call list start e others es a c h. wanted_follows client m new call polls.More list start e others es a c h;
+}
+
+-- an open collection makes few calls where none fails
+few_calls : (client : ℕ) (m : Collector) (es : List Entry) → IsSound m → CostBy client m.calls m.sweep es → failed_calls client m.calls es ≡ 0 →
+    m.calls < 9223372036854775808
+few_calls client m es sound cost failed = by m.sweep sound.sweep cost
+  where
+    by : (o : Option Sweep) → IfSome o IsSweep → CostBy client m.calls o es → m.calls < 9223372036854775808
+    by None s h = let few : m.calls ≤ failed_calls client m.calls es = h in omega arith
+    by (Some w) s h =
+        let bound : WithinReads m.calls (remaining w) (collect_base (length w.keys)) (failed_calls client m.calls es) = h in
+        let few = s.few in
+        omega arith
+
+pub ending : Ending collecting
+ending = record {
+  more_begins = λ k call r did. inl did.none;
+  spent_shown = λ k call r did. absurd did.none;
+  few = λ client m start es list is sound follows low at failed_none foreign. few_calls client m es sound (at low) failed_none;
 }

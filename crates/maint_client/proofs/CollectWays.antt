@@ -160,10 +160,9 @@ collects shard (Some w) = by (slice_get w.keys w.place)
     by None = refl
     by (Some k) = tt
 
-none_by : (poll : Poll CollectAnswer) (r : Reply) → CommitsNone r → CommitsNoneBy poll r
-none_by polls.More r h = h
-none_by (polls.Done answer) r h = h
-none_by _ r h = tt
+-- where something is left or nothing is, the call committed nothing
+goes_none : (c new : Collector) (w : Sweep) (poll : Poll CollectAnswer) (r : Reply) → GoesTo c w new poll → CommitsNone r → CommitsNoneBy poll r
+goes_none c new w poll r g h = goes_as c new w poll (λ d p. CommitsNoneBy p r) g (λ left. h) (λ over. h)
 
 pub effect : (c new : Collector) (call : Call) (r : Reply) (poll : Poll CollectAnswer) → Some (call_after c.shard c.sweep) ≡ Some call → Moves c r new poll → Did (kept c) call r poll
 effect c new call r poll is moves = record {
@@ -173,6 +172,6 @@ effect c new call r poll is moves = record {
   where
     by : Way c new r poll → CommitsNoneBy poll r
     by (failed e f) = subst (λ (p : Poll CollectAnswer). CommitsNoneBy p r) (sym f.0) tt
-    by (scanned none vs e w asked g) = none_by poll r (shown_none r vs e)
-    by (damaged none vs e damage asked p n) = none_by poll r (shown_none r vs e)
-    by (changed w some e g) = none_by poll r (changed_none r e)
+    by (scanned none vs e w asked g) = goes_none c new w poll r g (shown_none r vs e)
+    by (damaged none vs e damage asked p n) = subst (λ (q : Poll CollectAnswer). CommitsNoneBy q r) (sym p) tt
+    by (changed w some e g) = goes_none c new (swept w) poll r g (changed_none r e)

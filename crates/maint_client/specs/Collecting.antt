@@ -110,10 +110,11 @@ IsCollecting shard (calls.Delete key) = ⊤
 IsCollecting shard (calls.Truncate at_shard below) = at_shard ≡ shard
 IsCollecting shard _ = ⊥
 
--- a call that was answered committed nothing
+-- a call that was answered committed nothing; a collection is never told that no number is left
 abbrev pub CommitsNoneBy : Poll CollectAnswer → Reply → Type 0
 CommitsNoneBy polls.More reply = CommitsNone reply
 CommitsNoneBy (polls.Done answer) reply = CommitsNone reply
+CommitsNoneBy polls.Spent reply = ⊥
 CommitsNoneBy _ reply = ⊤
 
 -- what its call has done

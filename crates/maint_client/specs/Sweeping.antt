@@ -1,5 +1,5 @@
 -- What a collection's Scan shows, and what is left of a collection after it.
-use Rattle.std.specs.Prelude.{◌≡◌, ⊤, ℕ, ◌+◌, ◌<◌, ◌≤◌, Bool, true, false, nat_le, nat_lt, ◌||◌, if◌then◌else◌, Option, Some, None, Result, Ok, Err, List, [], ◌∷◌, ◌++◌, length}
+use Rattle.std.specs.Prelude.{◌≡◌, ⊤, ℕ, ◌+◌, ◌<◌, ◌≤◌, ◌^◌, Bool, true, false, nat_le, nat_lt, ◌||◌, if◌then◌else◌, Option, Some, None, Result, Ok, Err, List, [], ◌∷◌, ◌++◌, length}
 use Rattle.std.specs.List.{list_any, slice_get}
 use Rattle.std.specs.Ordering.{is_eq}
 use Rattle.store_core.specs.declared.shards.ShardId.{ShardId}
@@ -78,9 +78,10 @@ IsDeleting w = w.place < length w.keys
 abbrev pub goes_on : Sweep → Bool
 goes_on w = nat_lt w.place (length w.keys) || w.cut
 
--- no more keys are deleted than there are, and something is left
+-- no more keys are deleted than there are, which are at most 2^62, and something is left
 pub record IsSweep (w : Sweep) : Type 0 where
   pub within : w.place ≤ length w.keys
+  pub few : length w.keys ≤ 2 ^ 62
   pub left : goes_on w ≡ true
 
 -- the Delete of a key, or the Truncate below the floor where none is left

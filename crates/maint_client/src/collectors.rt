@@ -1,5 +1,5 @@
 // Collector: a client that removes the versions below the floor, and the parts that merges up to it took.
-ghost use Rattle.std.specs.Prelude.{◌≡◌, ◌<◌, ◌≤◌, ℕ, Option, Ok, Err, None, Some, IsSome, IfOk, IfSome, OnErr, OnOk, is_some, length, option_copied};
+ghost use Rattle.std.specs.Prelude.{◌≡◌, ◌<◌, ◌≤◌, ◌^◌, ℕ, Option, Ok, Err, None, Some, IsSome, IfOk, IfSome, OnErr, OnOk, is_some, length, option_copied};
 ghost use Rattle.causes.specs.Causes.{Rose};
 ghost use Rattle.store_core.specs.Histories.{History, IsReplyTo};
 ghost use Rattle.load_core.specs.declared.polls.Poll.TheVariants as polls;
@@ -130,6 +130,7 @@ impl Collector {
     // Goes on with what is left, or ends where nothing is.
     fn go_on(&mut self, sweep: Sweep) -> Poll<CollectAnswer>
         requires within { sweep.place ≤ length sweep.keys }
+        requires few { length sweep.keys ≤ 2 ^ 62 }
         requires sound { IsSound self.old }
         ensures goes { GoesTo self.old sweep self.new result }
         ensures sound { IsSound self.new }

@@ -1,5 +1,5 @@
 // Sweep: what is left of a collection after its Scan.
-ghost use Rattle.std.specs.Prelude.{◌≡◌, ◌≤◌, [], IfOk, OnOk, length};
+ghost use Rattle.std.specs.Prelude.{◌≡◌, ◌≤◌, ◌^◌, [], IfOk, OnOk, length};
 ghost use Rattle.state_core.specs.Steps.{taken_by};
 ghost use Rattle.state_core.specs.VersionReading.{read_version};
 ghost use Rattle.maint_client.specs.Sweeping.{AddsVersion, Gives, GoesOnWith, begins_below, goes_on, has_key, sweep_call, sweep_from, sweep_of};
@@ -10,6 +10,9 @@ use spine_core::KeyList;
 use state_core::{Transition, VersionFault, decode_version};
 use std::alloc::{AllocError, Global};
 use store_core::{Call, PartKey, ShardId, Version};
+
+/// The greatest count of keys of one collection. More of them are want of memory.
+const MAX_KEYS: usize = 1 << 62;
 
 /// What is left of a collection after its Scan: keys to delete, and then versions to remove.
 #[derive(Drop)]
@@ -117,6 +120,7 @@ impl Sweep {
     pub fn of(alloc: Global, shard: ShardId, versions: &[Version]) -> Result<Sweep, Unread>
         ensures shown { Gives result (sweep_of shard versions.now) }
         ensures within { IfOk result (λ w. w.place ≤ length w.keys) }
+        ensures few { IfOk result (λ w. length w.keys ≤ 2 ^ 62) }
     {
         match newest_of(alloc, shard, versions)? {
             Some(state) => Sweep::below(alloc, shard, state.floor(), versions),
@@ -138,8 +142,12 @@ impl Sweep {
     ) -> Result<Sweep, Unread>
         ensures shown { Gives result (sweep_from floor versions.now (taken_after shard floor [] versions.now)) }
         ensures within { IfOk result (λ w. w.place ≤ length w.keys) }
+        ensures few { IfOk result (λ w. length w.keys ≤ 2 ^ 62) }
     {
         let keys = taken_keys(alloc, shard, floor, versions)?;
+        if keys.as_slice().len() > MAX_KEYS {
+            return Err(Unread::Memory);
+        }
         Ok(Sweep {
             floor,
             keys,
@@ -172,6 +180,7 @@ impl Sweep {
     pub fn pass(&mut self)
         ensures after { self.new ≡ swept self.old }
         ensures within { self.old.place ≤ length self.old.keys → self.new.place ≤ length self.new.keys }
+        ensures keys { self.new.keys ≡ self.old.keys }
     {
         if self.place < self.keys.as_slice().len() {
             self.place += 1;
