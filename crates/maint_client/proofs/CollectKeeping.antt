@@ -1,6 +1,6 @@
 -- What holds of a collector as a machine. Entries go newest first.
-use Rattle.std.proofs.Common.{◌≡◌, ◌≢◌, ℕ, suc, ◌+◌, ◌-◌, ◌<◌, ◌≤◌, length, Bool, true, false, Option, Some, None, List, ◌∷◌, ◌++◌, inl, inr, refl, sym, ap, subst, ◌∙◌, arith}
-use Rattle.std.specs.Prelude.{⊤, IfSome, IsSome}
+use Rattle.std.proofs.Common.{◌≡◌, ◌≢◌, ℕ, ◌<◌, ◌≤◌, length, true, false, Option, Some, None, List, ◌∷◌, ◌++◌, inl, refl, sym, ap, subst, ◌∙◌, arith}
+use Rattle.std.specs.Prelude.{IfSome, IsSome}
 use Rattle.update_core.specs.declared.updates.Update.{Update}
 use Rattle.store_core.specs.declared.calls.Call.{Call}
 use Rattle.store_core.specs.declared.calls.Call.TheVariants as calls
@@ -9,28 +9,27 @@ use Rattle.store_core.specs.declared.entries.Entry.{Entry}
 use Rattle.store_core.specs.Stores.{Stored}
 use Rattle.store_core.specs.Histories.{faults_of}
 use Rattle.store_core.specs.Ports.{OfOthers}
-use Rattle.store_core.specs.Newest.{replay_back}
 use Rattle.state_core.specs.VersionReading.{most}
 use Rattle.history_core.specs.declared.asked.Asked.{Asked}
 use Rattle.history_core.specs.declared.asked.Asked.TheVariants as asks
 use Rattle.history_core.specs.declared.collect_answers.CollectAnswer.{CollectAnswer}
 use Rattle.history_core.specs.declared.collect_answers.CollectAnswer.TheVariants as answers
 use Rattle.history_core.specs.Costs.{WithinReads, collect_base, failed_calls}
-use Rattle.history_core.specs.Placing.{AtLastScan, IsAnsweredScan, places, placed, reply_at}
-use Rattle.history_core.specs.Upkeep.{LegalCollectBack, LegalCollectAt, LegalCollection, delete_of, deletes_of}
+use Rattle.history_core.specs.Placing.{IsAnsweredScan, places, placed, reply_at}
+use Rattle.history_core.specs.Upkeep.{LegalCollectBack, delete_of, deletes_of}
 use Rattle.history_core.proofs.Gaining.{places_others}
 use Rattle.load_core.specs.declared.polls.Poll.{Poll}
 use Rattle.load_core.specs.declared.polls.Poll.TheVariants as polls
 use Rattle.load_core.specs.Trying.{more}
-use Rattle.machine_core.specs.Machines.{Asking, Called, CostPoll, Ending, GoesOn, IsReading, Keeps, LegalPoll, reply_there}
+use Rattle.machine_core.specs.Machines.{Asking, Called, CostPoll, Ending, IsReading, Keeps, LegalPoll, reply_there}
 use Rattle.maint_client.specs.declared.collectors.Collector.{Collector}
 use Rattle.maint_client.specs.declared.sweeps.Sweep.{Sweep}
 use Rattle.maint_client.specs.Sweeping.{IsSweep, goes_on}
-use Rattle.maint_client.specs.Collecting.{CostBy, CostEnded, Follows, FollowsCommand, FollowsSweep, IsOpen, IsScanFor, IsSound, Moves, Wants, call_after, collecting, command, counted, deleted_by, kept, remaining}
+use Rattle.maint_client.specs.Collecting.{CostBy, CostEnded, Follows, FollowsCommand, FollowsSweep, IsOpen, IsScanFor, IsSound, Wants, call_after, collecting, command, counted, kept, remaining}
 use Rattle.maint_client.proofs.Swept.{at_scan, sweep_failed, sweep_others}
 use Rattle.maint_client.proofs.SweptScans.{ended_legal}
 use Rattle.maint_client.proofs.CollectWays.{effect, ended, fault_failed, goes_as, more_answered, moved_counted, moved_kept, moved_open, moved_shard, never_busy}
-use Rattle.maint_client.proofs.CollectPlaces.{Arrives, At, allowed, arrives, call_is, deletes_now, failed_now, fails, follows_here, for_any, goes, no_delete, of_open}
+use Rattle.maint_client.proofs.CollectPlaces.{Arrives, At, allowed, arrives, call_is, deletes_now, failed_now, fails, follows_here, for_any, goes, no_delete}
 
 -- ---- while nothing of its own happens
 

@@ -1,6 +1,6 @@
 -- What a reply at an entry's place makes of a collector: it follows, its answer is legal, and the bound is kept. Entries go newest first.
-use Rattle.std.proofs.Common.{◌≡◌, ◌≢◌, ℕ, suc, ◌+◌, ◌-◌, ◌<◌, ◌≤◌, length, take, Bool, true, false, cond, Option, Some, None, Result, Ok, Err, List, ◌∷◌, ◌++◌, inl, inr, refl, sym, ap, subst, ◌∙◌, arith}
-use Rattle.std.specs.Prelude.{⊤, IfSome, IsSome, nat_lt, ◌||◌}
+use Rattle.std.proofs.Common.{◌≡◌, ◌≢◌, ℕ, suc, ◌+◌, ◌<◌, ◌≤◌, length, Bool, true, false, cond, Option, Some, None, Ok, List, ◌∷◌, ◌++◌, inl, inr, refl, sym, ap, subst, ◌∙◌, arith}
+use Rattle.std.specs.Prelude.{IfSome, IsSome, nat_lt, ◌||◌}
 use Rattle.std.specs.List.{AllByRecursion, slice_get}
 use Rattle.std.proofs.lemmas.Bool.Decides.{nat_tests}
 use Rattle.std.proofs.lemmas.List.{take_all}
@@ -18,35 +18,30 @@ use Rattle.store_core.specs.declared.outcomes.Outcome.TheVariants.{Took, FailedT
 use Rattle.store_core.specs.declared.entries.Entry.{Entry}
 use Rattle.store_core.specs.Stores.{Stored, reply_of}
 use Rattle.store_core.specs.Histories.{faults_of, reply_by}
-use Rattle.store_core.specs.Ports.{Answered, OfOthers}
+use Rattle.store_core.specs.Ports.{Answered}
 use Rattle.store_core.specs.Newest.{mine_back, replay_back}
 use Rattle.state_core.specs.VersionReading.{most}
-use Rattle.state_core.proofs.ListLemmas.{among_map, bool_cases, each_at}
+use Rattle.state_core.proofs.ListLemmas.{among_map, each_at}
 use Rattle.history_core.specs.declared.asked.Asked.{Asked}
-use Rattle.history_core.specs.declared.asked.Asked.TheVariants as asks
 use Rattle.history_core.specs.declared.collect_answers.CollectAnswer.{CollectAnswer}
-use Rattle.history_core.specs.declared.collect_answers.CollectAnswer.TheVariants as answers
 use Rattle.history_core.specs.Costs.{WithinReads, collect_base, failed_calls}
 use Rattle.history_core.specs.Discipline.{Allows, DeletedBy, IsScanCovering, IsScanTaking, LawfulBack}
-use Rattle.history_core.specs.Placing.{AtLastScan, IsAnsweredScan, placed, places, reply_at}
-use Rattle.history_core.specs.Stands.{StandsFor}
-use Rattle.history_core.specs.Upkeep.{LegalCollectBack, delete_of, deletes_of}
+use Rattle.history_core.specs.Placing.{placed, places}
+use Rattle.history_core.specs.Upkeep.{delete_of, deletes_of}
 use Rattle.history_core.proofs.Entries.{lawful_older}
-use Rattle.history_core.proofs.Gaining.{failed_others, places_others}
-use Rattle.load_core.specs.declared.damages.Damage.{Damage}
+use Rattle.history_core.proofs.Gaining.{places_others}
 use Rattle.load_core.specs.declared.polls.Poll.{Poll}
-use Rattle.load_core.specs.declared.polls.Poll.TheVariants as polls
 use Rattle.load_core.specs.Trying.{more}
 use Rattle.load_core.proofs.Counting.{failed_next}
-use Rattle.machine_core.specs.Machines.{Asking, Called, CostPoll, LegalPoll, reply_there}
+use Rattle.machine_core.specs.Machines.{Asking, Called, reply_there}
 use Rattle.maint_client.specs.declared.collectors.Collector.{Collector}
 use Rattle.maint_client.specs.declared.sweeps.Sweep.{Sweep}
-use Rattle.maint_client.specs.Sweeping.{IsSweep, goes_on, sweep_call, sweep_of, swept}
-use Rattle.maint_client.specs.Collecting.{CostBy, CostEnded, Fails, FollowsCommand, FollowsSweep, GoesTo, IsCollecting, IsScanFor, IsSound, Moves, call_after, collecting, command, counted, deleted_by, kept, remaining}
+use Rattle.maint_client.specs.Sweeping.{IsSweep, sweep_call, sweep_of, swept}
+use Rattle.maint_client.specs.Collecting.{CostBy, Fails, FollowsCommand, FollowsSweep, GoesTo, IsCollecting, IsScanFor, Moves, call_after, collecting, deleted_by, remaining}
 use Rattle.maint_client.proofs.TakenKeys.{Asks, sweep_asks}
-use Rattle.maint_client.proofs.Swept.{at_scan, key_among, place, scan_covers, scan_takes, sweep_cut, sweep_deleted, sweep_failed, sweep_others}
-use Rattle.maint_client.proofs.SweptScans.{ended_legal, never_damaged, not_below, scan_follows}
-use Rattle.maint_client.proofs.CollectWays.{IsChanged, Way, changed, collects, damaged, failed, goes_as, scanned, way}
+use Rattle.maint_client.proofs.Swept.{key_among, place, scan_covers, scan_takes, sweep_cut, sweep_deleted, sweep_others}
+use Rattle.maint_client.proofs.SweptScans.{never_damaged, scan_follows}
+use Rattle.maint_client.proofs.CollectWays.{IsChanged, Way, changed, collects, damaged, failed, scanned, way}
 
 -- ---- what is next
 

@@ -1,6 +1,6 @@
 -- What a reply makes of a collector, in four ways.
-use Rattle.std.proofs.Common.{◌≡◌, ◌≢◌, ℕ, ◌⊎◌, Bool, true, false, Option, Some, None, Result, Ok, Err, List, inl, inr, refl, sym, ap, subst, ◌∙◌}
-use Rattle.std.specs.Prelude.{⊤, IsSome}
+use Rattle.std.proofs.Common.{◌≡◌, ◌≢◌, ◌⊎◌, true, false, Option, Some, None, Result, Ok, Err, List, inl, inr, refl, sym, subst, ◌∙◌}
+use Rattle.std.specs.Prelude.{⊤}
 use Rattle.std.specs.List.{slice_get}
 use Rattle.store_core.specs.declared.shards.ShardId.{ShardId}
 use Rattle.store_core.specs.declared.part_keys.PartKey.{PartKey}
@@ -19,7 +19,7 @@ use Rattle.load_core.specs.Trying.{more}
 use Rattle.machine_core.specs.Machines.{GoesOn}
 use Rattle.maint_client.specs.declared.collectors.Collector.{Collector}
 use Rattle.maint_client.specs.declared.sweeps.Sweep.{Sweep}
-use Rattle.maint_client.specs.Sweeping.{call_by, goes_on, sweep_call, sweep_of, swept}
+use Rattle.maint_client.specs.Sweeping.{call_by, goes_on, sweep_of, swept}
 use Rattle.maint_client.specs.Collecting.{CommitsNoneBy, Did, Ended, Fails, GoesByScan, GoesTo, IsCollecting, IsOpen, Moves, MovesBy, call_after, counted, kept, left_of, left_poll}
 
 -- a call that changes something was answered

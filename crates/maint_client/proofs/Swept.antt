@@ -1,42 +1,33 @@
 -- What the entries of a collection's client say of what is left of it. Entries go newest first.
-use Rattle.std.proofs.Common.{◌≡◌, ℕ, zero, suc, ◌+◌, ◌-◌, ◌<◌, ◌≤◌, min, length, take, ◌⊎◌, Bool, true, false, cond, Option, Some, None, List, [], ◌∷◌, ◌++◌, inl, inr, refl, sym, ap, subst, ◌∙◌, arith}
+use Rattle.std.proofs.Common.{◌≡◌, ℕ, zero, suc, ◌+◌, ◌<◌, ◌≤◌, take, Bool, true, false, cond, Some, List, [], ◌∷◌, ◌++◌, inl, inr, refl, sym, ap, subst, ◌∙◌, arith}
 use Rattle.std.specs.List.{AllByRecursion, slice_get}
-use Rattle.std.proofs.lemmas.List.{take_all}
-use Rattle.update_core.specs.declared.updates.Update.{Update}
 use Rattle.store_core.specs.declared.shards.ShardId.{ShardId}
 use Rattle.store_core.specs.declared.part_keys.PartKey.{PartKey}
 use Rattle.store_core.specs.declared.versions.Version.{Version}
 use Rattle.store_core.specs.declared.calls.Call.{Call}
 use Rattle.store_core.specs.declared.calls.Call.TheVariants as calls
 use Rattle.store_core.specs.declared.replies.Reply.{Reply}
-use Rattle.store_core.specs.declared.replies.Reply.TheVariants as replies
 use Rattle.store_core.specs.declared.outcomes.Outcome.{Outcome}
 use Rattle.store_core.specs.declared.outcomes.Outcome.TheVariants.{Took}
 use Rattle.store_core.specs.declared.entries.Entry.{Entry}
 use Rattle.store_core.specs.Stores.{Log, Stored, truncated}
-use Rattle.store_core.specs.Histories.{after_outcome, faults_of, reply, reply_by}
-use Rattle.store_core.specs.Ports.{Answered, OfOthers, answered}
+use Rattle.store_core.specs.Histories.{after_outcome, reply, reply_by}
+use Rattle.store_core.specs.Ports.{Answered, OfOthers}
 use Rattle.store_core.specs.Newest.{mine_back, replay_back}
 use Rattle.state_core.specs.Lists.{Among}
 use Rattle.state_core.specs.States.{ShardState, floor}
-use Rattle.state_core.specs.VersionReading.{most, version_in}
-use Rattle.state_core.proofs.ListLemmas.{among_map, bool_cases, each_at, each_intro, each_map}
-use Rattle.history_core.specs.Discipline.{Allows, AllDeleted, DeletedBy, IsDeleted, IsScanCovering, IsScanTaking, LawfulBack, NewestIs, TakenUpTo, TakesIn}
-use Rattle.history_core.specs.Histories.{version_at}
+use Rattle.state_core.specs.VersionReading.{most}
+use Rattle.state_core.proofs.ListLemmas.{among_map, each_at, each_map}
+use Rattle.history_core.specs.Discipline.{AllDeleted, DeletedBy, IsDeleted, IsScanCovering, IsScanTaking, NewestIs, TakenUpTo}
 use Rattle.history_core.specs.Placing.{AtLastScan, IsAnsweredScan, Placed, placed, places, reply_at}
-use Rattle.history_core.specs.Stands.{StandsFor, end_of}
-use Rattle.history_core.specs.Upkeep.{FloorIs, IsCleared, IsClearedSince, LegalCollection, delete_of, deletes_of}
-use Rattle.history_core.specs.declared.collect_answers.CollectAnswer.TheVariants as answers
-use Rattle.history_core.proofs.Bases.{base_of}
-use Rattle.history_core.proofs.Deleting.{deleted_absent}
+use Rattle.history_core.specs.Stands.{end_of}
 use Rattle.history_core.proofs.Entries.{LogStep, adds, cuts, idle, log_step, mine_newest, mine_older, shard_same}
 use Rattle.history_core.proofs.Gaining.{mine_others, places_gained, places_others}
-use Rattle.history_core.proofs.Logs.{version_bounds}
 use Rattle.load_core.specs.Trying.{more}
 use Rattle.load_core.proofs.Counting.{ends_counted, ends_rise}
 use Rattle.maint_client.specs.declared.sweeps.Sweep.{Sweep}
-use Rattle.maint_client.specs.Sweeping.{begins_below, call_by, goes_on, sweep_call, sweep_of}
-use Rattle.maint_client.specs.Collecting.{AsksFor, FollowsSweep, IsScanFor}
+use Rattle.maint_client.specs.Sweeping.{begins_below}
+use Rattle.maint_client.specs.Collecting.{FollowsSweep, IsScanFor}
 use Rattle.maint_client.proofs.TakenKeys.{Asks, Has, sweep_asks}
 
 -- ---- lists

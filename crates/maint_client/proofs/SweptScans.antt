@@ -1,5 +1,5 @@
 -- What a collection's Scan shows of the shard, and that its answer is legal in the end. Entries go newest first.
-use Rattle.std.proofs.Common.{◌≡◌, ℕ, ◌+◌, ◌<◌, ◌≤◌, length, take, ◌⊎◌, Bool, true, false, Option, Some, None, Ok, Err, List, [], ◌∷◌, inl, inr, refl, sym, ap, subst, ◌∙◌, arith}
+use Rattle.std.proofs.Common.{◌≡◌, ℕ, ◌+◌, ◌<◌, ◌≤◌, length, take, Bool, true, false, Option, Some, None, Ok, Err, List, [], ◌∷◌, inl, inr, refl, sym, ap, subst, ◌∙◌, arith}
 use Rattle.std.specs.Prelude.{nat_le, nat_lt, filter, ◌||◌}
 use Rattle.std.specs.List.{AllByRecursion}
 use Rattle.std.proofs.lemmas.List.{take_all}
@@ -9,10 +9,9 @@ use Rattle.store_core.specs.declared.shards.ShardId.{ShardId}
 use Rattle.store_core.specs.declared.part_keys.PartKey.{PartKey}
 use Rattle.store_core.specs.declared.versions.Version.{Version}
 use Rattle.store_core.specs.declared.calls.Call.TheVariants as calls
-use Rattle.store_core.specs.declared.replies.Reply.{Reply}
 use Rattle.store_core.specs.declared.replies.Reply.TheVariants as replies
 use Rattle.store_core.specs.declared.entries.Entry.{Entry}
-use Rattle.store_core.specs.Stores.{Log, Stored, live, numbered}
+use Rattle.store_core.specs.Stores.{Stored, numbered}
 use Rattle.store_core.specs.Histories.{reply}
 use Rattle.store_core.specs.Ports.{Answered}
 use Rattle.store_core.specs.Newest.{mine_back, replay_back}
@@ -22,28 +21,28 @@ use Rattle.state_core.specs.States.{ShardState, floor}
 use Rattle.state_core.specs.Steps.{Takes}
 use Rattle.state_core.specs.VersionReading.{most, version_in}
 use Rattle.state_core.proofs.Floors.{floor_top}
-use Rattle.state_core.proofs.ListLemmas.{bool_cases, each_at, each_intro}
+use Rattle.state_core.proofs.ListLemmas.{each_at, each_intro}
 use Rattle.history_core.specs.Discipline.{DeletedBy, LawfulBack, TakenUpTo, TakesIn}
 use Rattle.history_core.specs.Histories.{version_at}
 use Rattle.history_core.specs.Laws.{LastIs}
-use Rattle.history_core.specs.Placing.{AtLastScan, Placed, placed, places, reply_at}
+use Rattle.history_core.specs.Placing.{AtLastScan, Placed, places, reply_at}
 use Rattle.history_core.specs.Stands.{StandsFor, TakenIn, accepted, end_of}
-use Rattle.history_core.specs.Upkeep.{FloorIs, IsCleared, IsClearedSince, LegalCollection, deletes_of}
+use Rattle.history_core.specs.Upkeep.{FloorIs, IsClearedSince, LegalCollection, deletes_of}
 use Rattle.history_core.specs.declared.collect_answers.CollectAnswer.TheVariants as answers
 use Rattle.history_core.proofs.Bases.{base_of, none_there}
 use Rattle.history_core.proofs.Chains.{version_is}
 use Rattle.history_core.proofs.Deleting.{deleted_absent}
-use Rattle.history_core.proofs.Entries.{lawful_older, mine_newest}
+use Rattle.history_core.proofs.Entries.{mine_newest}
 use Rattle.history_core.proofs.Logs.{scan_there, version_bounds}
 use Rattle.history_core.proofs.StandsAfter.{stands_after}
 use Rattle.load_core.specs.declared.damages.Damage.{Damage}
-use Rattle.load_core.specs.Loading.{Loading, newest_after}
+use Rattle.load_core.specs.Loading.{Loading}
 use Rattle.load_core.specs.Trying.{more}
 use Rattle.load_core.proofs.Counting.{ends_rise}
 use Rattle.load_core.proofs.Scanned.{newest_last, scan_answer, shown_from, undamaged}
 use Rattle.maint_client.specs.declared.sweeps.Sweep.{Sweep}
 use Rattle.maint_client.specs.Sweeping.{begins_below, goes_on, sweep_of}
-use Rattle.maint_client.specs.Collecting.{AsksFor, FollowsSweep, IsScanFor}
+use Rattle.maint_client.specs.Collecting.{FollowsSweep, IsScanFor}
 use Rattle.maint_client.proofs.TakenKeys.{Asks, Has, sweep_asks, sweep_damaged}
 use Rattle.maint_client.proofs.Swept.{at_scan, first_rises, place}
 

@@ -1,7 +1,7 @@
 -- A collector: what it does next, what a reply makes of it, and what its client's own entries say of it. Entries go newest first.
-use Rattle.std.specs.Prelude.{⊤, ◌≡◌, ℕ, ◌+◌, ◌-◌, ◌<◌, ◌≤◌, true, false, if◌then◌else◌, Option, Some, None, IsSome, IfSome, Result, Ok, Err, List, length, take}
+use Rattle.std.specs.Prelude.{⊤, ◌≡◌, ℕ, ◌+◌, ◌-◌, ◌<◌, ◌≤◌, true, false, if◌then◌else◌}
+use Rattle.std.specs.Prelude.{Option, Some, None, IsSome, IfSome, Result, Ok, Err, List, length, take}
 use Rattle.std.specs.List.{AllByRecursion}
-use Rattle.update_core.specs.declared.updates.Update.{Update}
 use Rattle.store_core.specs.declared.shards.ShardId.{ShardId}
 use Rattle.store_core.specs.declared.versions.Version.{Version}
 use Rattle.store_core.specs.declared.calls.Call.{Call}
@@ -9,9 +9,8 @@ use Rattle.store_core.specs.declared.calls.Call.TheVariants as calls
 use Rattle.store_core.specs.declared.replies.Reply.{Reply}
 use Rattle.store_core.specs.declared.replies.Reply.TheVariants as replies
 use Rattle.store_core.specs.declared.entries.Entry.{Entry}
-use Rattle.store_core.specs.Stores.{Log, Stored}
+use Rattle.store_core.specs.Stores.{Stored}
 use Rattle.store_core.specs.Newest.{mine_back, replay_back}
-use Rattle.store_core.specs.Ports.{Answered}
 use Rattle.state_core.specs.Lists.{Among}
 use Rattle.state_core.specs.VersionReading.{most}
 use Rattle.history_core.specs.declared.asked.Asked.{Asked}
@@ -21,7 +20,7 @@ use Rattle.history_core.specs.declared.collect_answers.CollectAnswer.TheVariants
 use Rattle.history_core.specs.Costs.{WithinReads, collect_base, failed_calls}
 use Rattle.history_core.specs.Discipline.{DeletedBy}
 use Rattle.history_core.specs.Legal.{Command}
-use Rattle.history_core.specs.Placing.{AtLastScan, Placed, places, reply_at}
+use Rattle.history_core.specs.Placing.{AtLastScan, places, reply_at}
 use Rattle.history_core.specs.Stands.{end_of}
 use Rattle.history_core.specs.Upkeep.{LegalCollectBack, deletes_of}
 use Rattle.load_core.specs.declared.begin_faults.BeginFault.{BeginFault}
@@ -34,7 +33,7 @@ use Rattle.load_core.specs.Trying.{more}
 use Rattle.machine_core.specs.Machines.{Words}
 use Rattle.maint_client.specs.declared.collectors.Collector.{Collector}
 use Rattle.maint_client.specs.declared.sweeps.Sweep.{Sweep}
-use Rattle.maint_client.specs.Sweeping.{IsDeleting, IsSweep, goes_on, sweep_call, sweep_of, swept}
+use Rattle.maint_client.specs.Sweeping.{IsSweep, goes_on, sweep_call, sweep_of, swept}
 
 -- ---- what it does next
 
@@ -60,7 +59,9 @@ counted c = record c { calls = more c.calls }
 
 -- where something is left the collection goes on with that, else it has ended
 abbrev pub left_of : Collector → Sweep → Collector
-left_of c w = if goes_on w then record c { sweep = Some w; calls = more c.calls } else record c { asked = None; sweep = None; calls = more c.calls }
+left_of c w =
+    if goes_on w then record c { sweep = Some w; calls = more c.calls }
+    else record c { asked = None; sweep = None; calls = more c.calls }
 
 -- and this is what the poll comes to
 abbrev pub left_poll : Sweep → Poll CollectAnswer
@@ -137,15 +138,16 @@ pub record AsksFor (shard : ShardId) (w : Sweep) (vs : List Version) : Type 0 wh
 
 -- the call was a Scan from 0, answered with versions that ask for this collection
 abbrev pub IsScanFor : ShardId → Sweep → Call → Reply → Type 0
-IsScanFor shard w call reply = (call ≡ calls.Scan shard 0) × ((vs : List Version) × (reply ≡ replies.Versions vs) × AsksFor shard w vs)
+IsScanFor shard w call reply =
+    (call ≡ calls.Scan shard 0) × ((vs : List Version) × (reply ≡ replies.Versions vs) × AsksFor shard w vs)
 
 -- how many keys a collection has deleted
 abbrev pub deleted_by : Option Sweep → ℕ
 deleted_by None = 0
 deleted_by (Some w) = w.place
 
--- after its Scan: what that showed, what its client has deleted since, and that the versions below the floor are gone, or are still
--- to be removed
+-- after its Scan: what that showed, what its client has deleted since, and that the versions below the floor are gone, or are
+-- still to be removed
 pub record FollowsSweep (client : ℕ) (shard : ShardId) (calls : ℕ) (w : Sweep) (start : Stored) (es : List Entry) : Type 0 where
   pub scan : calls < most → AtLastScan shard (λ p. IsScanFor shard w p.entry.call (reply_at start p)) (places client calls es)
   pub shown : Among (λ o. IsScanFor shard w o.entry.call o.reply) (mine_back start es client)
@@ -208,7 +210,8 @@ collecting = record {
   Effect = Did;
   Follows = Follows;
   Spares = λ c call. ⊤;
-  Legal = λ client k calls answer start es list. IfSome k.asked (λ a. LegalCollectBack start es (command client k calls a) answer);
+  Legal = λ client k calls answer start es list.
+      IfSome k.asked (λ a. LegalCollectBack start es (command client k calls a) answer);
   least = 2;
   CostAt = λ base client c start es list. c.calls < most → CostBy client c.calls c.sweep es;
   CostOver = λ base client old new start es list. new.calls < most → CostEnded client new.shard new.calls start es;
@@ -216,5 +219,6 @@ collecting = record {
 
 -- a collection is begun exactly where none is open; else that is told, and all is as it was
 abbrev pub Begins : Collector → Collector → Result Unit BeginFault → Type 0
-Begins old new (Ok done) = (old.asked ≡ None) × (new ≡ record { shard = old.shard; asked = Some asks.Collect; sweep = None; calls = 0 })
+Begins old new (Ok done) =
+    (old.asked ≡ None) × (new ≡ record { shard = old.shard; asked = Some asks.Collect; sweep = None; calls = 0 })
 Begins old new (Err fault) = (fault ≡ faults.Open) × IsSome old.asked × (new ≡ old)

@@ -1,5 +1,6 @@
 -- What a collection's Scan shows, and what is left of a collection after it.
-use Rattle.std.specs.Prelude.{◌≡◌, ⊤, ℕ, ◌+◌, ◌<◌, ◌≤◌, ◌^◌, Bool, true, false, nat_le, nat_lt, ◌||◌, if◌then◌else◌, Option, Some, None, Result, Ok, Err, List, [], ◌∷◌, ◌++◌, length}
+use Rattle.std.specs.Prelude.{◌≡◌, ⊤, ℕ, ◌+◌, ◌<◌, ◌≤◌, ◌^◌, Bool, true, false, nat_le, nat_lt, ◌||◌, if◌then◌else◌}
+use Rattle.std.specs.Prelude.{Option, Some, None, Result, Ok, Err, List, [], ◌∷◌, ◌++◌, length}
 use Rattle.std.specs.List.{list_any, slice_get}
 use Rattle.std.specs.Ordering.{is_eq}
 use Rattle.store_core.specs.declared.shards.ShardId.{ShardId}
@@ -36,7 +37,8 @@ with_keys keys [] = keys
 with_keys keys (k ∷ ks) = with_keys (with_key keys k) ks
 
 -- the next step with the transition of the version that was read, unless it can't be read
-abbrev pub with_step : {A : Type 0} → ℕ → Result (ShardState × Transition) VersionFault → (Transition → Result A Damage) → Result A Damage
+abbrev pub with_step : {A : Type 0} → ℕ → Result (ShardState × Transition) VersionFault → (Transition → Result A Damage) →
+    Result A Damage
 with_step number (Ok read) next = next read.1
 with_step number (Err fault) next = Err (damages.Version number fault)
 
@@ -45,7 +47,8 @@ with_step number (Err fault) next = Err (damages.Version number fault)
 abbrev pub taken_after : ShardId → ℕ → List PartKey → List Version → Result (List PartKey) Damage
 taken_after shard top found [] = Ok found
 taken_after shard top found (v ∷ vs) =
-    if nat_le v.number top then with_step v.number (read_version shard v.number v.bytes) (λ x. taken_after shard top (with_keys found (taken_by x)) vs)
+    if nat_le v.number top
+    then with_step v.number (read_version shard v.number v.bytes) (λ x. taken_after shard top (with_keys found (taken_by x)) vs)
     else taken_after shard top found vs
 
 -- whether the first of the versions has a number below this one
@@ -114,6 +117,8 @@ GoesOnWith (Err (unread.Damaged damage)) number read =
 
 -- what goes on with one version more that is looked at
 abbrev pub AddsVersion : ShardId → ℕ → Version → List PartKey → List PartKey → Result Unit Unread → Type 0
-AddsVersion shard top v old new (Ok done) = (vs : List Version) → taken_after shard top old (v ∷ vs) ≡ taken_after shard top new vs
+AddsVersion shard top v old new (Ok done) =
+    (vs : List Version) → taken_after shard top old (v ∷ vs) ≡ taken_after shard top new vs
 AddsVersion shard top v old new (Err unread.Memory) = ⊤
-AddsVersion shard top v old new (Err (unread.Damaged damage)) = (vs : List Version) → taken_after shard top old (v ∷ vs) ≡ Err damage
+AddsVersion shard top v old new (Err (unread.Damaged damage)) =
+    (vs : List Version) → taken_after shard top old (v ∷ vs) ≡ Err damage

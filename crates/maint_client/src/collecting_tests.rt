@@ -216,7 +216,8 @@ fn first_number(store: &mut UntoldStore) -> Result<u64, AllocError> {
     }
 }
 
-// A Scan, a Delete of each part that the merge took, and a Truncate below the floor, which the keeper holds. The merged part stays.
+// A Scan, a Delete of each part that the merge took, and a Truncate below the floor, which the keeper holds. The merged part
+// stays.
 #[test]
 fn what_was_merged_is_collected(rt: HostRuntime) -> Result<(), Fail> {
     let alloc = rt.alloc();

@@ -1,12 +1,14 @@
 // Collector: a client that removes the versions below the floor, and the parts that merges up to it took.
-ghost use Rattle.std.specs.Prelude.{◌≡◌, ◌<◌, ◌≤◌, ◌^◌, ℕ, Option, Ok, Err, None, Some, IsSome, IfOk, IfSome, OnErr, OnOk, is_some, length, option_copied};
+ghost use Rattle.std.specs.Prelude.{◌≡◌, ◌<◌, ◌≤◌, ◌^◌, ℕ, Option, Ok, Err, None, Some, IsSome, IfOk, IfSome, OnErr, OnOk};
+ghost use Rattle.std.specs.Prelude.{is_some, length, option_copied};
 ghost use Rattle.causes.specs.Causes.{Rose};
 ghost use Rattle.store_core.specs.Histories.{History, IsReplyTo};
 ghost use Rattle.load_core.specs.declared.polls.Poll.TheVariants as polls;
 ghost use Rattle.load_core.specs.Fronts.{Backwards, WhereLawful};
 ghost use Rattle.machine_core.specs.Polling.{CostGoesOn, FollowsWhere, LegalWhere, Polled, Unpolled};
 ghost use Rattle.maint_client.specs.Sweeping.{IsSweep, sweep_call};
-ghost use Rattle.maint_client.specs.Collecting.{Begins, GoesTo, IsOpen, IsSound, Moves, MovesBy, Wants, call_after, collecting, counted};
+ghost use Rattle.maint_client.specs.Collecting.{Begins, GoesTo, IsOpen, IsSound, Moves, MovesBy, Wants};
+ghost use Rattle.maint_client.specs.Collecting.{call_after, collecting, counted};
 
 use crate::sweeps::Sweep;
 use history_core::{Asked, CollectAnswer};
@@ -15,8 +17,8 @@ use machine_core::Machine;
 use std::alloc::{AllocError, Global};
 use store_core::{Call, Port, Reply, ShardId, Version};
 
-/// A collector of one shard. It has no member. A collection is begun and then polled until it ends; each poll makes at most one call
-/// of the store.
+/// A collector of one shard. It has no member. A collection is begun and then polled until it ends; each poll makes at most one
+/// call of the store.
 #[derive(Drop)]
 pub struct Collector {
     /// The shard's name.
@@ -67,8 +69,8 @@ impl Collector {
         self.calls
     }
 
-    /// Begins to remove what lies below the floor. The fault is Open (a collection is open); the collector is then as it was. It takes
-    /// no memory.
+    /// Begins to remove what lies below the floor. The fault is Open (a collection is open); the collector is then as it was. It
+    /// takes no memory.
     pub fn begin_collect(&mut self) -> Result<(), BeginFault>
         requires { IsSound self.old }
         ensures begins { Begins self.old self.new result }
@@ -102,11 +104,13 @@ impl Collector {
         // At most one call is made, one that the client may make, and its reply comes to this.
         ensures polled { IfOk result (λ poll. Polled collecting (P.client port.old) (P.front port.old) (P.front port.new)
             self.old self.new poll) }
-        ensures memory { OnErr result (Unpolled collecting (P.client port.old) (P.front port.old) (P.front port.new) self.old self.new) }
+        ensures memory { OnErr result (Unpolled collecting (P.client port.old) (P.front port.old) (P.front port.new)
+            self.old self.new) }
         ensures sound { IsSound self.new }
         ensures follows { FollowsWhere collecting (P.client port.old) (P.front port.new) self.new }
         // Each answer is legal at the end of the front, and nothing is damaged there.
-        ensures legal { IfOk result (λ poll. LegalWhere collecting (P.client port.old) (P.front port.new) self.old self.new poll) }
+        ensures legal { IfOk result (λ poll. LegalWhere collecting (P.client port.old) (P.front port.new)
+            self.old self.new poll) }
         // The bound on the calls is kept.
         ensures cost { IfOk result (λ poll. CostGoesOn collecting (P.client port.old) (P.front port.old) (P.front port.new)
             self.old self.new poll) }

@@ -2,7 +2,8 @@
 ghost use Rattle.std.specs.Prelude.{◌≡◌, ◌≤◌, ◌^◌, [], IfOk, OnOk, length};
 ghost use Rattle.state_core.specs.Steps.{taken_by};
 ghost use Rattle.state_core.specs.VersionReading.{read_version};
-ghost use Rattle.maint_client.specs.Sweeping.{AddsVersion, Gives, GoesOnWith, begins_below, goes_on, has_key, sweep_call, sweep_from, sweep_of};
+ghost use Rattle.maint_client.specs.Sweeping.{AddsVersion, Gives, GoesOnWith};
+ghost use Rattle.maint_client.specs.Sweeping.{begins_below, goes_on, has_key, sweep_call, sweep_from, sweep_of};
 ghost use Rattle.maint_client.specs.Sweeping.{swept, taken_after, with_keys};
 
 use load_core::{Damage, Unread, newest_of};

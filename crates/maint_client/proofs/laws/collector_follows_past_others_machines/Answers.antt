@@ -1,7 +1,4 @@
-use Rattle.std.proofs.Common.{◌≡◌, Option, None, false, true, subst}
-use Rattle.std.specs.Prelude.{IsSome}
 use Rattle.machine_core.proofs.Polls.{spared_where}
-use Rattle.history_core.specs.declared.asked.Asked.{Asked}
 use Rattle.history_core.specs.declared.collect_answers.CollectAnswer.{CollectAnswer}
 use Rattle.maint_client.specs.declared.collectors.Collector.{Collector}
 use Rattle.maint_client.specs.Collecting.{collecting}

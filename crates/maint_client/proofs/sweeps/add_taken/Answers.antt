@@ -1,7 +1,5 @@
-use Rattle.std.proofs.Common.{◌≡◌, List, ◌++◌, ap}
-use Rattle.store_core.specs.declared.part_keys.PartKey.{PartKey}
+use Rattle.std.proofs.Common.{◌≡◌, ◌++◌, ap}
 use Rattle.state_core.specs.Steps.{taken_by}
-use Rattle.maint_client.specs.Sweeping.{with_keys}
 use Rattle.maint_client.proofs.TakenKeys.{with_keys_append}
 use Rattle.maint_client.proofs.sweeps.add_taken.Goals as goal
 
