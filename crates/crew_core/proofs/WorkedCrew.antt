@@ -11,18 +11,18 @@ use Rattle.store_core.specs.Stores.{empty_store}
 use Rattle.store_core.specs.Newest.{mine_back, replay_back}
 use Rattle.state_core.specs.States.{ShardState}
 use Rattle.history_core.specs.Laws.{LastIs}
-use Rattle.history_core.specs.Worked.{the_shard, key, early_row, late_row, early_part, late_part, version4, version5}
-use Rattle.history_core.specs.Worked.{state3, state4, state5, step3, step4, step5}
-use Rattle.history_core.specs.WorkedTrail.{did, first_calls}
+use Rattle.worked_histories.specs.Worked.{the_shard, key, early_row, late_row, early_part, late_part, version4, version5}
+use Rattle.worked_histories.specs.Worked.{state3, state4, state5, step3, step4, step5}
+use Rattle.worked_histories.specs.WorkedTrail.{did, first_calls}
 use Rattle.history_core.proofs.Bases.{none_there}
 use Rattle.history_core.proofs.Endings.{last_law}
 use Rattle.history_core.proofs.Entries.{lawful_newest}
 use Rattle.history_core.proofs.Prefixes.{lawful_back}
-use Rattle.history_core.proofs.WorkedAccepted.{accepted_before}
-use Rattle.history_core.proofs.WorkedLaw.{prefixes_lawful}
-use Rattle.history_core.proofs.WorkedParts.{reads_early, reads_late}
-use Rattle.history_core.proofs.WorkedStands.{starts}
-use Rattle.history_core.proofs.WorkedVersions.{reads3, reads4, reads5}
+use Rattle.worked_histories.proofs.WorkedAccepted.{accepted_before}
+use Rattle.worked_histories.proofs.WorkedLaw.{prefixes_lawful}
+use Rattle.worked_histories.proofs.WorkedParts.{reads_early, reads_late}
+use Rattle.worked_histories.proofs.WorkedStands.{starts}
+use Rattle.worked_histories.proofs.WorkedVersions.{reads3, reads4, reads5}
 use Rattle.crew_core.specs.Competing.{FromWorkers, HasAppended, HasCollection}
 use Rattle.crew_core.specs.Completing.{plain_after}
 use Rattle.crew_core.specs.Feeds.{MakeFeed}

@@ -7,11 +7,6 @@ pub mod Walks
 pub mod WalkViews
 pub mod Accepting
 pub mod Laws
-pub mod Worked
-pub mod WorkedTrail
-pub mod WorkedBroken
-pub mod WorkedFailures
-pub mod WorkedCompacted
 pub mod Spending
 pub mod Answers
 pub mod Members
@@ -21,7 +16,5 @@ pub mod Legal
 pub mod Upkeep
 pub mod Costs
 pub mod AnswerLaws
-pub mod WorkedAnswers
 pub mod StretchLaws
 pub mod TakenAfterAll
-pub mod WorkedUpkeep

@@ -15,9 +15,6 @@ mod read_answers;
 pub mod stretch_laws;
 pub mod taken_laws;
 mod walks;
-pub mod worked;
-pub mod worked_answers;
-pub mod worked_upkeep;
 mod write_answers;
 
 pub use accepting::accepted;

@@ -10,7 +10,7 @@ use std::os::unix::fs::FileExt;
 use std::path::Path;
 use std::rt::Files;
 
-/// A file, and how often a call on it has failed. It tells no content. Where the file couldn't be opened, each call fails.
+/// A file, and how often a call on it has failed. It tells no content. Where the file couldn't be opened and locked, each call fails.
 #[derive(Drop)]
 pub struct FileDisk {
     file: Option<File>,
@@ -57,7 +57,7 @@ fn folder_of(path: &str) -> &str {
     }
 }
 
-// The file with this path, whose name in its folder is sure.
+// The file with this path, whose name in its folder is sure. It is locked until it is closed, so that no other program writes in it.
 fn open_file(files: &impl Files<File = File>, path: &str) -> Option<File> {
     let file = File::options()
         .read(true)
@@ -65,14 +65,16 @@ fn open_file(files: &impl Files<File = File>, path: &str) -> Option<File> {
         .create(true)
         .open(files, path)
         .ok()?;
+    file.try_lock().ok()?;
     let folder = File::open(files, folder_of(path)).ok()?;
     folder.sync_all().ok()?;
     Some(file)
 }
 
 impl FileDisk {
-    /// The file with this path, which is made where it is absent. Its folder is synced, so that no crash takes its name away.
-    /// Where the file can't be opened, or its folder can't be synced, each call of the disk fails.
+    /// The file with this path, which is made where it is absent. It is locked as long as the disk lives, and its folder is synced, so
+    /// that no crash takes its name away. Where the file can't be opened, another program has locked it, or its folder can't be
+    /// synced, each call of the disk fails.
     pub fn open(files: &impl Files<File = File>, path: &str) -> FileDisk {
         let file = open_file(files, path);
         FileDisk { file, failed: 0 }

@@ -43,6 +43,10 @@ fn a_file_is_a_disk(rt: HostRuntime) -> Result<(), Fail> {
     disk.read(0, &mut bytes)?;
     assert_eq!(rt; bytes.as_slice(), b"PERSJNL1\x00mo".as_slice());
     assert!(rt; disk.read(4, &mut bytes).is_err());
+    // Nobody else writes in it until it is closed.
+    let mut locked = FileDisk::open(&rt, path);
+    assert!(rt; locked.len().is_err());
+    drop(disk);
     let mut again = FileDisk::open(&rt, path);
     assert_eq!(rt; again.len()?, 11);
     std::fs::remove_file(&rt, path)?;

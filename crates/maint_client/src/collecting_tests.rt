@@ -2,7 +2,6 @@
 ghost use Rattle.maint_client.specs.Collecting.{IsSound};
 
 use super::*;
-use crate::untold_stores::UntoldStore;
 use load_core::{Attempt, Ready, first_version};
 use spine_core::{Batch, Desc, KeyList};
 use state_core::{Kind, Transition};
@@ -11,6 +10,7 @@ use std::test::Fail;
 use store_core::{
     Bytes, Call, DirectPort, FaultAt, FaultList, MemStore, PartKey, Reply, ShardId, Store,
 };
+use test_stores::UntoldStore;
 use update_core::Frontier;
 
 const SHARD: ShardId = ShardId(1);

@@ -19,5 +19,3 @@ pub use sweeps::Sweep;
 mod collecting_tests;
 #[cfg(test)]
 mod tests;
-#[cfg(test)]
-mod untold_stores;

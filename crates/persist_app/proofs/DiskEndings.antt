@@ -1,5 +1,5 @@
 -- How a command over a store that was just opened ends.
-use Rattle.std.proofs.Common.{◌≡◌, ℕ, ◌≤◌, Bool, true, false, Option, Some, List, [], ◌∷◌, ◌++◌, refl, sym, ap, subst, ◌∙◌}
+use Rattle.std.proofs.Common.{not, ◌≡◌, ℕ, ◌≤◌, Bool, true, false, Option, Some, List, [], ◌∷◌, ◌++◌, refl, sym, ap, subst, ◌∙◌}
 use Rattle.causes.specs.Causes.{Rose}
 use Rattle.store_core.specs.Stores.{Stored}
 use Rattle.store_core.specs.declared.entries.Entry.{Entry}
@@ -7,12 +7,17 @@ use Rattle.store_core.specs.declared.outcomes.Outcome.TheVariants.{Took}
 use Rattle.store_core.specs.Histories.{History}
 use Rattle.journal_core.specs.declared.disks.Disk.{Ghosts}
 use Rattle.driving.specs.StoreTurns.{EndsInFailure, Extends}
-use Rattle.feed_text.proofs.Spelling.{all_right, all_append}
 use Rattle.store_file.specs.declared.file_stores.FileStore.{FileStore}
-use Rattle.store_file.specs.FileStores.{disk_of, end_of, is_shut, store_now}
+use Rattle.store_core.specs.Contents.{stored_of}
+use Rattle.journal_core.specs.Crashes.{LeavesWhereTold}
+use Rattle.store_file.specs.FileStores.{disk_of, end_of, history_of, is_shut, opened_disk, store_now}
+use Rattle.store_file.specs.SinceOpening.{StandsForFirst, all_done}
 use Rattle.store_file.specs.Replays.{Keeps}
-use Rattle.store_file.proofs.Keeping.{keeps_stands}
-use Rattle.persist_app.specs.DiskLefts.{AllDone, StandsWhereTold}
+use Rattle.store_file.proofs.FirstCalls.{last_done, leaves_first}
+use Rattle.store_file.proofs.Keeping.{keeps_stands, leaves_where_told}
+use Rattle.crash_laws.specs.Accepted.{KeepsAccepted}
+use Rattle.crash_laws.proofs.Keeping.{keeps_accepted}
+use Rattle.persist_app.specs.DiskLefts.{KeepsAcceptedFrom, StandsWhereTold}
 use Rattle.persist_app.specs.PlainEnds.{EndsPlainly}
 use Rattle.persist_app.proofs.DiskOpenings.{rose_before}
 
@@ -31,13 +36,14 @@ ends_since words status told told_now early failed failed_now left left_now read
       line = e.line;
       input = e.input;
       output = e.output;
-      store_failed = λ six. ((e.store_failed six).0, (e.store_failed six).1, (rose_before early failed failed_now le (e.store_failed six).2.0, (e.store_failed six).2.1));
+      store_failed = λ six. ((e.store_failed six).0, (e.store_failed six).1, ((e.store_failed six).2.0, (rose_before early failed failed_now le (e.store_failed six).2.1.0, (e.store_failed six).2.1.1)));
       damaged = e.damaged;
       members_full = e.members_full;
       spent = e.spent;
       reading = e.reading;
       store = e.store;
       lawful = e.lawful;
+      idle = e.idle;
       untouched = e.untouched;
     }
 
@@ -56,20 +62,15 @@ unshut : (shut : Bool) (before now : ℕ) → (shut ≡ true → Rose before now
 unshut true before now rose none = absurd (none (rose refl))
 unshut false before now rose none = refl
 
--- one more call that was done
-pub done_more : (es es_now : List Entry) (e : Entry) → es_now ≡ es ++ e ∷ [] → e.outcome ≡ Took → AllDone es → AllDone es_now
-done_more es es_now e more took done =
-    subst AllDone (sym more) (all_append (λ (x : Entry). x.outcome ≡ Took) es (e ∷ []) done (took, tt))
-
 -- where a call failed, not each was done
-pub not_each : (h : History) → EndsInFailure h → AllDone h.trail → ⊥
+not_each : (h : History) → EndsInFailure h → all_done h.trail ≡ true → ⊥
 not_each h failure done =
-    failure.failed (all_right (λ (x : Entry). x.outcome ≡ Took) failure.front (failure.last ∷ []) (subst AllDone failure.trail done)).0
+    failure.failed (last_done failure.front failure.last (ap all_done (sym failure.trail) ∙ done))
 
 -- so the store is shut
-pub shut_by : (shut : Bool) (h : History) → EndsInFailure h → (shut ≡ false → AllDone h.trail) → shut ≡ true
+pub shut_by : (shut : Bool) (h : History) → EndsInFailure h → all_done h.trail ≡ not shut → shut ≡ true
 shut_by true h failure done = refl
-shut_by false h failure done = absurd (not_each h failure (done refl))
+shut_by false h failure done = absurd (not_each h failure done)
 
 module _ {D : Type 0} {G : Ghosts D} where
   -- a store whose disk hasn't failed is what the disk's bytes stand for
@@ -78,3 +79,13 @@ module _ {D : Type 0} {G : Ghosts D} where
   stands_now s before now rose none h is =
       let shut = unshut (is_shut s) before now rose none in
       keeps_stands (store_now s) (end_of s) h (subst (λ (t : Stored). Keeps t (end_of s) h) (s.replayed shut) (s.kept h is shut))
+
+  -- whatever a crash left since a store was opened stands for the store after its first calls
+  pub first_calls : (s : FileStore D G) → LeavesWhereTold (StandsForFirst (history_of s)) (opened_disk s) (disk_of s)
+  first_calls s = leaves_first (opened_disk s) (disk_of s) (stored_of s.start.value) s.trail.items s.told s.made s.spelled s.safe
+
+  -- and that store for what those calls make accepted
+  pub first_accepted : (s : FileStore D G) → KeepsAcceptedFrom (opened_disk s) (history_of s) (disk_of s)
+  first_accepted s shard list starts lawful =
+      leaves_where_told (StandsForFirst (history_of s)) (KeepsAccepted shard list (history_of s)) (opened_disk s) (disk_of s)
+      (λ c first. keeps_accepted shard list (history_of s) c starts lawful first) (first_calls s)

@@ -1,26 +1,25 @@
 -- What is left of a disk.
 use Rattle.std.specs.Prelude.{⊤, ◌≡◌, ℕ, List, [], ◌∷◌, Option, Some}
 use Rattle.std.specs.Option.{ForSome}
-use Rattle.std.specs.List.{AllByRecursion}
-use Rattle.store_core.specs.declared.entries.Entry.{Entry}
-use Rattle.store_core.specs.declared.outcomes.Outcome.TheVariants.{Took}
+use Rattle.update_core.specs.declared.updates.Update.{Update}
+use Rattle.store_core.specs.declared.shards.ShardId.{ShardId}
 use Rattle.store_core.specs.Stores.{Stored, empty_store}
 use Rattle.store_core.specs.Histories.{History}
 use Rattle.journal_core.specs.declared.disks.Disk.{Ghosts}
+use Rattle.history_core.specs.Discipline.{Lawful}
+use Rattle.history_core.specs.Stands.{StandsFor}
 use Rattle.journal_core.specs.Disks.{DiskHistory}
+use Rattle.journal_core.specs.Crashes.{LeavesWhereTold}
 use Rattle.store_file.specs.declared.file_stores.FileStore.{FileStore}
 use Rattle.store_file.specs.declared.open_faults.OpenFault.{OpenFault}
 use Rattle.store_file.specs.FileStores.{history_of}
 use Rattle.store_file.specs.Replays.{Stands}
 use Rattle.store_file.specs.Causes.{IsCauseOf}
+use Rattle.crash_laws.specs.Accepted.{KeepsAccepted}
 use Rattle.persist_app.specs.declared.disk_lefts.DiskLeft.{DiskLeft}
 use Rattle.persist_app.specs.declared.disk_lefts.DiskLeft.TheVariants as lefts
 use Rattle.persist_app.specs.Endings.{IsStatus}
 use Rattle.persist_app.specs.DiskLines.{Refuses}
-
--- each call was done
-abbrev pub AllDone : List Entry → Type 0
-AllDone entries = AllByRecursion (λ e. e.outcome ≡ Took) entries
 
 -- no bytes begin an empty store, and others the store that they stand for
 abbrev pub Begins : List ℕ → Stored → Type 0
@@ -34,6 +33,13 @@ BeginsWhereTold told s = ForSome told (λ h. Begins h.now.bytes s)
 -- where the disk is told, its bytes stand for the store
 abbrev pub StandsWhereTold : Option DiskHistory → Stored → Type 0
 StandsWhereTold told s = ForSome told (λ h. Stands s h.now.bytes)
+
+-- Over a start that stands for a list, whatever a crash left of the disk at any moment from one to another stands for a store that
+-- stands for what the first calls of a lawful history make accepted.
+abbrev pub KeepsAcceptedFrom : Option DiskHistory → History → Option DiskHistory → Type 0
+KeepsAcceptedFrom opened h now =
+    (shard : ShardId) (list : List Update) → StandsFor h.start shard list → Lawful h →
+    LeavesWhereTold (KeepsAccepted shard list h) opened now
 
 module _ {D : Type 0} {G : Ghosts D} where
   -- the history of a store when it was opened: its start, and no call

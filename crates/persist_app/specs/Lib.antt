@@ -1,9 +1,4 @@
-pub mod PlainRuns
-pub mod RunFaults
 pub mod Endings
-pub mod Sessions
-pub mod Drives
-pub mod Answering
 pub mod PlainEnds
 pub mod DiskLines
 pub mod DiskLefts

@@ -5,8 +5,9 @@ use Rattle.feed_text.specs.declared.limits.TheConstants.{MAX_BYTES}
 use Rattle.feed_text.specs.Streams.{Gains, ReadsUpTo}
 use Rattle.store_core.specs.Histories.{History}
 use Rattle.driving.specs.StoreTurns.{Extends, StoreFailed}
-use Rattle.persist_app.specs.Endings.{IsRun, IsStatus, ReadsFeed, RunsPlainly, RefusesLine, NoCollection, FoundFull, FoundSpent, StaysLawful}
-use Rattle.persist_app.specs.Endings.{words_text, input_failed_text}
+use Rattle.store_core.specs.declared.shards.ShardId.{ShardId}
+use Rattle.plain_run.specs.Endings.{ReadsFeed, RunsPlainly, NoCollection, FoundFull, FoundSpent, StaysLawful}
+use Rattle.persist_app.specs.Endings.{IsRun, IsStatus, NoRun, RefusesLine, RunsOn, words_text, input_failed_text}
 
 -- What has become of a store's history and its count of faults, of a source's bytes and its counts of reads and faults, and of a
 -- sink's bytes and its count of faults, where a command of these words ended with this status.
@@ -14,16 +15,17 @@ pub record EndsPlainly (words : List (List ℕ)) (status : ℕ) (told told_now :
     (left left_now : Option (List ℕ)) (reads reads_now faults faults_now : ℕ) (taken taken_now : Option (List ℕ)) (puts puts_now : ℕ)
     : Type 0 where
   pub statuses : IsStatus status
-  pub complete : status ≡ 0 → IsRun words × RunsPlainly told told_now left left_now taken taken_now
-  pub no_command : status ≡ 2 → (IsRun words → ⊥) × Gains taken taken_now words_text
-  pub line : status ≡ 3 → IsRun words × RefusesLine left taken taken_now
-  pub input : status ≡ 4 → IsRun words × Rose faults faults_now × Gains taken taken_now input_failed_text
+  pub complete : status ≡ 0 → RunsOn words (λ shard. RunsPlainly shard told told_now left left_now taken taken_now)
+  pub no_command : status ≡ 2 → NoRun words × Gains taken taken_now words_text
+  pub line : status ≡ 3 → RunsOn words (λ shard. RefusesLine left taken taken_now)
+  pub input : status ≡ 4 → RunsOn words (λ shard. Rose faults faults_now × Gains taken taken_now input_failed_text)
   pub output : status ≡ 5 → Rose puts puts_now
-  pub store_failed : status ≡ 6 → IsRun words × ReadsFeed left left_now × StoreFailed told_now failed failed_now
-  pub damaged : status ≡ 9 → IsRun words × ReadsFeed left left_now × NoCollection told told_now
-  pub members_full : status ≡ 10 → IsRun words × ReadsFeed left left_now × FoundFull told told_now
-  pub spent : status ≡ 11 → IsRun words × ReadsFeed left left_now × FoundSpent told told_now
+  pub store_failed : status ≡ 6 → RunsOn words (λ shard. ReadsFeed left left_now × StoreFailed told_now failed failed_now)
+  pub damaged : status ≡ 9 → RunsOn words (λ shard. ReadsFeed left left_now × NoCollection shard told told_now)
+  pub members_full : status ≡ 10 → RunsOn words (λ shard. ReadsFeed left left_now × FoundFull shard told told_now)
+  pub spent : status ≡ 11 → RunsOn words (λ shard. ReadsFeed left left_now × FoundSpent shard told told_now)
   pub reading : ReadsUpTo (MAX_BYTES + 1) left left_now reads reads_now
   pub store : Extends told told_now
-  pub lawful : StaysLawful told told_now
+  pub lawful : (shard : ShardId) → IsRun words shard → StaysLawful shard told told_now
+  pub idle : NoRun words → (told_now ≡ told) × (left_now ≡ left)
   pub untouched : (status ≡ 2) ⊎ ((status ≡ 3) ⊎ (status ≡ 4)) → told_now ≡ told

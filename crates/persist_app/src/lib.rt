@@ -2,19 +2,12 @@
 #![tactic(auto)]
 
 mod clocks;
-mod collections;
 mod disk_ends;
 mod disk_lefts;
 mod disk_statuses;
-mod drives;
-mod endings;
 mod ends;
 mod on_disk;
 mod plain;
-mod run_faults;
-mod runs;
-mod session_faults;
-mod sessions;
 mod statuses;
 mod system_clocks;
 mod watched;
@@ -22,7 +15,6 @@ mod watching;
 mod words;
 
 pub use clocks::{Clock, FixedClock};
-pub use collections::PlainCollection;
 pub use disk_ends::DiskEnded;
 pub use disk_lefts::DiskLeft;
 pub use ends::Ended;

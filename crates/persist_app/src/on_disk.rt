@@ -1,12 +1,14 @@
 // The call that `persist_file` makes.
 ghost use Rattle.std.specs.Prelude.{◌≡◌, ◌≤◌, ◌++◌, [], true, false, IfOk, IfErr, map, string_bytes};
 ghost use Rattle.causes.specs.Causes.{Rose};
-ghost use Rattle.store_file.specs.FileStores.{disk_faults, disk_of, file_faults, history_of, is_shut, store_now, told};
+ghost use Rattle.store_file.specs.FileStores.{disk_faults, disk_of, file_faults, history_of, is_shut, opened_disk, store_now, told};
+ghost use Rattle.store_file.specs.SinceOpening.{StandsForFirst};
+ghost use Rattle.journal_core.specs.Crashes.{LeavesWhereTold};
 ghost use Rattle.store_file.specs.Causes.{IsCauseOf};
 ghost use Rattle.persist_app.specs.Endings.{EndsWith};
 ghost use Rattle.persist_app.specs.PlainEnds.{EndsPlainly};
 ghost use Rattle.persist_app.specs.DiskLines.{IsDiskStatus, Refuses, damaged_at_text};
-ghost use Rattle.persist_app.specs.DiskLefts.{BeginsWhereTold, IsLeft, IsUnread, OnStore, StandsWhereTold, opened};
+ghost use Rattle.persist_app.specs.DiskLefts.{BeginsWhereTold, IsLeft, KeepsAcceptedFrom, IsUnread, OnStore, StandsWhereTold, opened};
 
 use crate::clocks::Clock;
 use crate::disk_ends::DiskEnded;
@@ -103,6 +105,11 @@ pub fn persist_on_disk<So: Source, Si: Sink, D: Disk, K: Clock>(
     ensures shut { OnStore result.left (λ store. is_shut store ≡ true → Rose (D.faults disk) (disk_faults store)) }
     // 6: the store is shut, and so the disk failed in this call.
     ensures failed { OnStore result.left (λ store. result.status ≡ 6 → is_shut store ≡ true) }
+    // Whatever a crash left at any moment since the store was opened, within a store call too, stands for the store after its first
+    // calls, with or without the next one.
+    ensures any_moment { OnStore result.left (λ store. LeavesWhereTold (StandsForFirst (history_of store)) (opened_disk store) (disk_of store)) }
+    // Where the start stood for a list, that store stands for what those calls make accepted.
+    ensures accepted { OnStore result.left (λ store. KeepsAcceptedFrom (opened_disk store) (history_of store) (disk_of store)) }
     // Where the disk didn't fail in this call, its bytes stand for the store as it is.
     ensures stands { OnStore result.left (λ store. (Rose (D.faults disk) (disk_faults store) → ⊥)
         → StandsWhereTold (disk_of store) (store_now store)) }

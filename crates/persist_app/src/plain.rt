@@ -1,21 +1,40 @@
 // The call that `persist_main` makes.
-ghost use Rattle.std.specs.Prelude.{◌≡◌, ◌≤◌, ◌+◌, ◌⊎◌, map, string_bytes};
+ghost use Rattle.std.specs.Prelude.{◌≡◌, ◌≤◌, ◌+◌, ◌⊎◌, Some, map, string_bytes};
 ghost use Rattle.causes.specs.Causes.{Rose};
 ghost use Rattle.feed_text.specs.declared.limits.TheConstants.{MAX_BYTES};
 ghost use Rattle.feed_text.specs.Streams.{Gains, ReadsUpTo};
 ghost use Rattle.driving.specs.StoreTurns.{Extends, StoreFailed};
-ghost use Rattle.persist_app.specs.Endings.{EndsWith, Finishes, FoundFull, FoundSpent, IsRun, IsStatus, NoCollection, Performs, ReadsFeed, RunsPlainly, RefusesLine, Spares, StaysLawful, input_failed_text, words_text};
+ghost use Rattle.store_core.specs.declared.shards.ShardId.{ShardId};
+ghost use Rattle.plain_run.specs.Answering.{AreApart};
+ghost use Rattle.plain_run.specs.Endings.{FoundFull, FoundSpent, NoCollection, ReadsFeed, RunsPlainly, StaysLawful};
+ghost use Rattle.persist_app.specs.Endings.{EndsWith, Finishes, IsRun, IsStatus, NoRun, Performs, RefusesLine, RunsOn, Spares};
+ghost use Rattle.persist_app.specs.Endings.{input_failed_text, words_text};
 
 use crate::clocks::Clock;
-use crate::endings::Ending;
 use crate::ends::Ended;
-use crate::runs::run;
 use crate::statuses::Status;
-use crate::words::is_run;
+use crate::words::run_shard;
 use driving::SolePort;
 use feed_text::{Sink, Source, print_line_fault, put_all};
+use plain_run::{Ending, Place, run};
 use std::alloc::Global;
-use store_core::Store;
+use store_core::{ShardId, Store};
+
+// The clients of a run.
+const WRITER: u64 = 0;
+
+const READER: u64 = 1;
+
+fn place_of(shard: ShardId) -> Place
+    ensures shard { result.shard ≡ shard }
+    ensures apart { AreApart result }
+{
+    Place {
+        shard,
+        writer: WRITER,
+        reader: READER,
+    }
+}
 
 // Writes the last line. A put that fails makes the status that of the output.
 fn end_with<Si: Sink>(out: &mut Si, line: &[u8], status: u8) -> u8
@@ -30,7 +49,7 @@ fn end_with<Si: Sink>(out: &mut Si, line: &[u8], status: u8) -> u8
 
 // Names the line at fault, where memory for that is there.
 fn end_with_line<Si: Sink>(alloc: Global, out: &mut Si, number: u64) -> u8
-    ensures { Finishes (Ending.BadLine number) result (Si.taken out.old) (Si.taken out.new) (Si.faults out.old) (Si.faults out.new) }
+    ensures { Finishes (Some (Ending.BadLine number)) result (Si.taken out.old) (Si.taken out.new) (Si.faults out.old) (Si.faults out.new) }
 {
     let mut line = Vec::new(alloc);
     match print_line_fault(&mut line, number) {
@@ -39,13 +58,12 @@ fn end_with_line<Si: Sink>(alloc: Global, out: &mut Si, number: u64) -> u8
     }
 }
 
-// Writes the last line of a command that has ended so, and gives its status.
-fn finish<Si: Sink>(alloc: Global, ending: Ending, out: &mut Si) -> u8
-    ensures { Finishes ending result (Si.taken out.old) (Si.taken out.new) (Si.faults out.old) (Si.faults out.new) }
+// Writes the last line of a run that has ended so, and gives its status.
+fn finish_run<Si: Sink>(alloc: Global, ending: Ending, out: &mut Si) -> u8
+    ensures { Finishes (Some ending) result (Si.taken out.old) (Si.taken out.new) (Si.faults out.old) (Si.faults out.new) }
 {
     match ending {
         Ending::Complete => Status::Complete as u8,
-        Ending::NoCommand => end_with(out, b"words\n", Status::Words as u8),
         Ending::BadLine { number } => end_with_line(alloc, out, number),
         Ending::InputFailed => end_with(out, b"input failed\n", Status::Input as u8),
         Ending::OutputFailed => Status::Output as u8,
@@ -57,8 +75,17 @@ fn finish<Si: Sink>(alloc: Global, ending: Ending, out: &mut Si) -> u8
     }
 }
 
-// Does what the words say, but for the last line.
-#[tactic(auto, using(crate::proofs::RunLaws::rests_lawful))]
+// Writes the last line of a command, where its words are one, and gives its status.
+fn finish<Si: Sink>(alloc: Global, ending: Option<Ending>, out: &mut Si) -> u8
+    ensures { Finishes ending result (Si.taken out.old) (Si.taken out.new) (Si.faults out.old) (Si.faults out.new) }
+{
+    match ending {
+        Some(ending) => finish_run(alloc, ending, out),
+        None => end_with(out, b"words\n", Status::Words as u8),
+    }
+}
+
+// Does what the words say, but for the last line. None is that they are no command.
 fn perform<So: Source, Si: Sink, S: Store>(
     alloc: Global,
     words: &[String],
@@ -66,24 +93,31 @@ fn perform<So: Source, Si: Sink, S: Store>(
     out: &mut Si,
     port: &mut SolePort<S>,
     now: u64,
-) -> Ending
-    ensures ends { Performs (map string_bytes words.now) result (S.history port.old.store) (S.history port.new.store) (So.left src.old) (So.left src.new) (So.faults src.old) (So.faults src.new)
+) -> Option<Ending>
+    ensures ends { Performs (map string_bytes words.now) result (S.history port.old.store) (S.history port.new.store)
+        (So.left src.old) (So.left src.new) (So.faults src.old) (So.faults src.new)
         (Si.taken out.old) (Si.taken out.new) (Si.faults out.old) (Si.faults out.new) }
     ensures reading { ReadsUpTo (MAX_BYTES + 1) (So.left src.old) (So.left src.new) (So.reads src.old) (So.reads src.new) }
-    ensures failed { result ≡ Ending.StoreFailed → StoreFailed (S.history port.new.store) (S.faults port.old.store) (S.faults port.new.store) }
-    ensures lawful { StaysLawful (S.history port.old.store) (S.history port.new.store) }
+    ensures failed { result ≡ Some Ending.StoreFailed →
+        StoreFailed (S.history port.new.store) (S.faults port.old.store) (S.faults port.new.store) }
+    ensures store { Extends (S.history port.old.store) (S.history port.new.store) }
+    ensures lawful { (shard : ShardId) → IsRun (map string_bytes words.now) shard →
+        StaysLawful shard (S.history port.old.store) (S.history port.new.store) }
     ensures spares { Spares result port.old.store port.new.store }
+    ensures idle { NoRun (map string_bytes words.now) → (port.new.store ≡ port.old.store) × (src.new ≡ src.old) }
     ensures later { Si.faults out.old ≤ Si.faults out.new }
 {
-    if is_run(words) {
-        return run(alloc, src, out, port, now);
+    match run_shard(alloc, words) {
+        Ok(Some(shard)) => Some(run(alloc, src, out, port, place_of(shard), now)),
+        Ok(None) => None,
+        Err(_) => Some(Ending::Memory),
     }
-    Ending::NoCommand
 }
 
-/// Does what the words say, over a source, a sink and a store. The one command is `run`: it reads a feed and writes the
-/// replies to it, and keeps the accepted updates in the store, on shard 1. It starts from what the store holds there, as client 0
-/// that writes and client 1 that reads, and leaves as both. See docs/DEFINITIONS.md, "Plain runs" and "Statuses".
+/// Does what the words say, over a source, a sink and a store. The one command is `run`, of the shard that its words name: it
+/// reads a feed and writes the replies to it, and keeps the accepted updates in the store, on that shard. It starts from what the
+/// store holds there, as client 0 that writes and client 1 that reads, and leaves as both. See docs/DEFINITIONS.md, "Words",
+/// "Plain runs" and "Statuses".
 pub fn persist_plain<So: Source, Si: Sink, S: Store, K: Clock>(
     alloc: Global,
     words: &Vec<String>,
@@ -96,43 +130,43 @@ pub fn persist_plain<So: Source, Si: Sink, S: Store, K: Clock>(
     // 0: the text was read to its end and spells a feed. Where the history is told, lawful and from a start that stands for a
     // list, the plain run of that feed from the store's view is written, and nothing else; and the store that is given back
     // stands for the updates that the plain run ends with.
-    ensures complete { result.status ≡ 0 → IsRun (map string_bytes words.now.items)
-        × RunsPlainly (S.history store) (S.history result.store) (So.left src.old) (So.left src.new) (Si.taken out.old) (Si.taken out.new) }
+    ensures complete { result.status ≡ 0 → RunsOn (map string_bytes words.now.items) (λ shard.
+        RunsPlainly shard (S.history store) (S.history result.store) (So.left src.old) (So.left src.new)
+        (Si.taken out.old) (Si.taken out.new)) }
     // 2: the words are no command.
-    ensures no_command { result.status ≡ 2 → (IsRun (map string_bytes words.now.items) → ⊥)
+    ensures no_command { result.status ≡ 2 → NoRun (map string_bytes words.now.items)
         × Gains (Si.taken out.old) (Si.taken out.new) words_text }
     // 3: a line is at fault, and nothing was executed.
-    ensures line { result.status ≡ 3 → IsRun (map string_bytes words.now.items)
-        × RefusesLine (So.left src.old) (Si.taken out.old) (Si.taken out.new) }
+    ensures line { result.status ≡ 3 → RunsOn (map string_bytes words.now.items) (λ shard.
+        RefusesLine (So.left src.old) (Si.taken out.old) (Si.taken out.new)) }
     // 4: a read failed.
-    ensures input { result.status ≡ 4 → IsRun (map string_bytes words.now.items)
-        × Rose (So.faults src.old) (So.faults src.new)
-        × Gains (Si.taken out.old) (Si.taken out.new) input_failed_text }
+    ensures input { result.status ≡ 4 → RunsOn (map string_bytes words.now.items) (λ shard.
+        Rose (So.faults src.old) (So.faults src.new) × Gains (Si.taken out.old) (Si.taken out.new) input_failed_text) }
     // 5: a put failed.
     ensures output { result.status ≡ 5 → Rose (Si.faults out.old) (Si.faults out.new) }
     // 6, and 9 to 11: the words are the command's, and the text was read to its end and spells a feed.
     // 6: a store call failed; where the history is told, it is the last call.
-    ensures store_failed { result.status ≡ 6 → IsRun (map string_bytes words.now.items)
-        × ReadsFeed (So.left src.old) (So.left src.new)
-        × StoreFailed (S.history result.store) (S.faults store) (S.faults result.store) }
+    ensures store_failed { result.status ≡ 6 → RunsOn (map string_bytes words.now.items) (λ shard.
+        ReadsFeed (So.left src.old) (So.left src.new)
+        × StoreFailed (S.history result.store) (S.faults store) (S.faults result.store)) }
     // 9: never where the history is told, lawful and from a start that stands for a list.
-    ensures damaged { result.status ≡ 9 → IsRun (map string_bytes words.now.items)
-        × ReadsFeed (So.left src.old) (So.left src.new)
-        × NoCollection (S.history store) (S.history result.store) }
+    ensures damaged { result.status ≡ 9 → RunsOn (map string_bytes words.now.items) (λ shard.
+        ReadsFeed (So.left src.old) (So.left src.new) × NoCollection shard (S.history store) (S.history result.store)) }
     // 10: over such a history a Scan of this call showed 256 members.
-    ensures members_full { result.status ≡ 10 → IsRun (map string_bytes words.now.items)
-        × ReadsFeed (So.left src.old) (So.left src.new)
-        × FoundFull (S.history store) (S.history result.store) }
+    ensures members_full { result.status ≡ 10 → RunsOn (map string_bytes words.now.items) (λ shard.
+        ReadsFeed (So.left src.old) (So.left src.new) × FoundFull shard (S.history store) (S.history result.store)) }
     // 11: over such a history a Scan of this call showed a last version with the number 2^64 - 1.
-    ensures spent { result.status ≡ 11 → IsRun (map string_bytes words.now.items)
-        × ReadsFeed (So.left src.old) (So.left src.new)
-        × FoundSpent (S.history store) (S.history result.store) }
+    ensures spent { result.status ≡ 11 → RunsOn (map string_bytes words.now.items) (λ shard.
+        ReadsFeed (So.left src.old) (So.left src.new) × FoundSpent shard (S.history store) (S.history result.store)) }
     // At most one byte more than a feed may have is read, and each read but the last takes one.
     ensures reading { ReadsUpTo (MAX_BYTES + 1) (So.left src.old) (So.left src.new) (So.reads src.old) (So.reads src.new) }
     // The history, where it is told, has the same start, and a trail that begins with the trail handed in.
     ensures store { Extends (S.history store) (S.history result.store) }
     // Where it was lawful, from a start that stands for a list, it still is.
-    ensures lawful { StaysLawful (S.history store) (S.history result.store) }
+    ensures lawful { (shard : ShardId) → IsRun (map string_bytes words.now.items) shard →
+        StaysLawful shard (S.history store) (S.history result.store) }
+    // Where the words are no command, the store and the source are as they were.
+    ensures idle { NoRun (map string_bytes words.now.items) → (result.store ≡ store) × (src.new ≡ src.old) }
     // Where nothing was executed, the store is as it was.
     ensures untouched { (result.status ≡ 2) ⊎ ((result.status ≡ 3) ⊎ (result.status ≡ 4)) → result.store ≡ store }
 {

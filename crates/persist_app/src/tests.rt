@@ -4,10 +4,9 @@ ghost use Rattle.store_core.specs.Starting.{CanStart, NoneTwice, same_shard, sha
 
 use super::*;
 use crate::deaf_stores::DeafStore;
-use crate::sessions::Session;
 use causes::NumberList;
-use driving::SolePort;
 use feed_text::{Feed, FeedLine, MemSink, MemSource, RunReply, parse_feed, print_reply};
+use plain_run::PlainCollection;
 use state_core::{Transition, decode_version};
 use std::alloc::{AllocError, Global};
 use std::test::Fail;
@@ -236,11 +235,17 @@ fn other_words_are_no_command(rt: HostRuntime) -> Result<(), Fail> {
         "",
         "run --fast",
         "run run",
+        "run --",
+        "run --shard",
+        "run --shard=X",
+        "run --shard=00000000000000000000000000000002 --shard=00000000000000000000000000000002",
         "help",
         "Run",
-        "runs",
         "ru",
         "ingest",
+        "steps",
+        "steps help",
+        "reclock --operators 1",
         "--",
     ] {
         let case = Case {
@@ -250,6 +255,42 @@ fn other_words_are_no_command(rt: HostRuntime) -> Result<(), Fail> {
         let (ended, taken) = answer(alloc, &case)?;
         assert_eq!(rt; ended, 2, "{words}");
         assert_eq!(rt; taken.as_slice(), b"words\n".as_slice(), "{words}");
+    }
+    Ok(())
+}
+
+// Each shard is a collection of its own, however its name is spelled.
+#[test]
+fn a_shard_is_named_by_the_words(rt: HostRuntime) -> Result<(), Fail> {
+    let alloc = rt.alloc();
+    let mut store = MemStore::new(alloc, FaultList::new(alloc));
+    for (words, written) in [
+        ("run", b"ok\n1 a\n.\n".as_slice()),
+        (
+            "run --shard 0000000000000000000000000000000a",
+            b"ok\n1 a\n.\n".as_slice(),
+        ),
+        (
+            "run --shard=00000000-0000-0000-0000-00000000000A",
+            b"mismatch 10\n1 a\n.\n".as_slice(),
+        ),
+        (
+            "run --shard={00000000-0000-0000-0000-000000000001}",
+            b"mismatch 10\n1 a\n.\n".as_slice(),
+        ),
+        (
+            "run --shard urn:uuid:00000000-0000-0000-0000-000000000001",
+            b"mismatch 10\n1 a\n.\n".as_slice(),
+        ),
+    ] {
+        let case = Case {
+            words,
+            ..run(b"append 0 10\n3 1 a\n.\nsnapshot 9\n")
+        };
+        let (ended, taken) = ended(alloc, &case, store)?;
+        assert_eq!(rt; ended.status, 0, "{words}");
+        assert_eq!(rt; taken.as_slice(), written, "{words}");
+        store = ended.store;
     }
     Ok(())
 }
@@ -363,17 +404,14 @@ fn a_run_goes_on_from_the_store(rt: HostRuntime) -> Result<(), Fail> {
     Ok(())
 }
 
-// A store on which a writer and a reader stand, and the reader's since is at this time.
-fn with_reader(alloc: Global, since: u64) -> Result<MemStore, Fail> {
-    let mut port = SolePort {
-        store: MemStore::new(alloc, FaultList::new(alloc)),
-        client: 0,
+// The store after a run of a feed whose first put failed, so that its writer and its reader still stand.
+fn with_members(alloc: Global, feed: &[u8], store: MemStore) -> Result<MemStore, Fail> {
+    let case = Case {
+        puts: &[0],
+        ..run(feed)
     };
-    if let Ok(session) = Session::open(alloc, &mut port, 0) {
-        let mut session = session;
-        let _reply = session.advance(alloc, &mut port, since);
-    }
-    Ok(port.store)
+    let (ended, _) = ended(alloc, &case, store)?;
+    Ok(ended.store)
 }
 
 #[test]
@@ -381,7 +419,9 @@ fn the_least_since_of_the_readers_counts(rt: HostRuntime) -> Result<(), Fail> {
     let alloc = rt.alloc();
     let feed =
         b"append 0 10\n1 1 a\n3 1 b\n.\nsince 5\nsnapshot 1\nsnapshot 3\nsince 4\n".as_slice();
-    let (ended, taken) = ended(alloc, &run(feed), with_reader(alloc, 2)?)?;
+    let store = MemStore::new(alloc, FaultList::new(alloc));
+    let store = with_members(alloc, b"since 2\n", store)?;
+    let (ended, taken) = ended(alloc, &run(feed), store)?;
     assert_eq!(rt; ended.status, 0);
     assert_eq!(rt;
         taken.as_slice(),
@@ -393,14 +433,11 @@ fn the_least_since_of_the_readers_counts(rt: HostRuntime) -> Result<(), Fail> {
 #[test]
 fn a_full_shard_lets_nobody_in(rt: HostRuntime) -> Result<(), Fail> {
     let alloc = rt.alloc();
-    let mut port = SolePort {
-        store: MemStore::new(alloc, FaultList::new(alloc)),
-        client: 0,
-    };
+    let mut store = MemStore::new(alloc, FaultList::new(alloc));
     for _ in 0..128 {
-        assert!(rt; Session::open(alloc, &mut port, 0).is_ok());
+        store = with_members(alloc, b"snapshot 0\n", store)?;
     }
-    let (ended, taken) = ended(alloc, &run(b"snapshot 0\n"), port.store)?;
+    let (ended, taken) = ended(alloc, &run(b"snapshot 0\n"), store)?;
     assert_eq!(rt; ended.status, 10);
     assert_eq!(rt; taken.as_slice(), b"members full\n".as_slice());
     Ok(())

@@ -1,9 +1,7 @@
 // A store in a file whose disk is watched from some count of its faults on.
-ghost use Rattle.std.specs.Prelude.{◌≡◌, ◌≤◌, ℕ, true, false};
-ghost use Rattle.std.proofs.Props.{props};
+ghost use Rattle.std.specs.Prelude.{◌≡◌, ◌≤◌, ℕ, true};
 ghost use Rattle.causes.specs.Causes.{Rose};
-ghost use Rattle.store_file.specs.FileStores.{told, history_of, is_shut, disk_faults, file_faults};
-ghost use Rattle.persist_app.specs.DiskLefts.{AllDone};
+ghost use Rattle.store_file.specs.FileStores.{told, is_shut, disk_faults, file_faults};
 
 use journal_core::Disk;
 use std::alloc::AllocError;
@@ -20,15 +18,14 @@ impl Watch for Brand {
     ghost count = { 0 };
 }
 
-/// A store that is shut only where its disk's count has risen above the watched one, and has done each call until it is shut. A call
-/// that is generic over the store keeps that.
+/// A store that is shut only where its disk's count has risen above the watched one. A call that is generic over the store keeps
+/// that.
 #[derive(Drop)]
 pub struct Watched<D: Disk, W: Watch> {
     pub store: FileStore<D>,
     pub of: PhantomData<W>,
     ghost later: { W.count ≤ disk_faults store },
     ghost rose: { is_shut store ≡ true → Rose W.count (disk_faults store) },
-    ghost done: { is_shut store ≡ false → AllDone (history_of store).trail } by { Prim.hlevel props },
 }
 
 impl<D: Disk, W: Watch> Store for Watched<D, W> {

@@ -1,20 +1,21 @@
 // The words of the command line.
-ghost use Rattle.std.specs.Prelude.{◌≡◌, ◌↔◌, codes, IsTrue, map, string_bytes};
-ghost use Rattle.persist_app.specs.Endings.{IsRun};
+ghost use Rattle.std.specs.Prelude.{◌≡◌, Ok, None, IfOk, IfSome, map, string_bytes};
+ghost use Rattle.persist_app.specs.Endings.{IsRun, NoRun};
 
-// Whether a word is `run`.
-fn spells_run(word: &str) -> bool
-    ensures { IsTrue result ↔ (word.now ≡ codes "run") }
-{
-    word == "run"
-}
+use command_words::{CommandWords, WordsFault, parse_words};
+use std::alloc::{AllocError, Global};
+use store_core::ShardId;
 
-/// Whether the words are the one word `run`.
-pub fn is_run(words: &[String]) -> bool
-    ensures { IsTrue result ↔ IsRun (map string_bytes words.now) }
+/// The shard of the command `run`; None where the words are no command that the program has.
+pub fn run_shard(alloc: Global, words: &[String]) -> Result<Option<ShardId>, AllocError>
+    ensures some { IfOk result (λ found. IfSome found (λ shard. IsRun (map string_bytes words.now) shard)) }
+    ensures none { result ≡ Ok None → NoRun (map string_bytes words.now) }
 {
-    match words {
-        [word] => spells_run(word.as_str()),
-        _ => false,
+    match parse_words(alloc, words) {
+        Ok(CommandWords::Run { shard }) => Ok(Some(ShardId(shard))),
+        Ok(CommandWords::Steps { .. }) => Ok(None),
+        Ok(CommandWords::Reclock { .. }) => Ok(None),
+        Err(WordsFault::NoCommand) => Ok(None),
+        Err(WordsFault::Memory) => Err(AllocError),
     }
 }

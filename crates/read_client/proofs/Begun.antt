@@ -1,40 +1,35 @@
 -- A reader that has begun a command follows, and is within the bound on its calls.
-use Rattle.std.proofs.Common.{◌≡◌, ℕ, ◌≤◌, Option, Some, None, List, [], ◌∷◌, inl, inr, refl, sym, subst, arith}
-use Rattle.std.specs.Prelude.{⊤, IfSome}
+use Rattle.std.proofs.Common.{◌≡◌, ℕ, ◌≤◌, Option, Some, None, List, refl, sym, ap, subst, arith}
+use Rattle.std.specs.Prelude.{IfSome, unwrap_or}
 use Rattle.update_core.specs.declared.updates.Update.{Update}
 use Rattle.store_core.specs.declared.shards.ShardId.{ShardId}
-use Rattle.store_core.specs.declared.calls.Call.{Call}
-use Rattle.store_core.specs.declared.calls.Call.TheVariants as calls
-use Rattle.store_core.specs.declared.replies.Reply.{Reply}
-use Rattle.store_core.specs.declared.replies.Reply.TheVariants as replies
 use Rattle.store_core.specs.declared.entries.Entry.{Entry}
 use Rattle.store_core.specs.Stores.{Stored}
 use Rattle.store_core.specs.Histories.{History}
-use Rattle.store_core.specs.Ports.{Answered}
 use Rattle.store_core.specs.Newest.{mine_back}
-use Rattle.state_core.specs.declared.kinds.Kind.{Kind}
 use Rattle.state_core.specs.declared.kinds.Kind.TheVariants.{Reader as AsReader}
 use Rattle.state_core.specs.declared.transitions.Transition.{Transition}
 use Rattle.state_core.specs.declared.transitions.Transition.TheVariants as steps
-use Rattle.state_core.specs.States.{ShardState}
 use Rattle.state_core.specs.Steps.{acts_for}
-use Rattle.state_core.specs.VersionReading.{version_in}
 use Rattle.history_core.specs.declared.asked.Asked.{Asked}
 use Rattle.history_core.specs.declared.asked.Asked.TheVariants as asks
-use Rattle.history_core.specs.Discipline.{IsJoin, JoinsAs, Owns, OwnsSome}
-use Rattle.history_core.specs.Members.{IsKindJoin, JoinedAs, KindJoins}
+use Rattle.history_core.specs.Discipline.{OwnsSome}
+use Rattle.history_core.specs.Members.{JoinedAs}
 use Rattle.load_core.specs.Fronts.{Backwards, WhereLawful}
 use Rattle.load_core.specs.Trying as trying
 use Rattle.load_core.proofs.Remaining.{begun_cost}
+use Rattle.machine_core.proofs.Fronts.{everywhere, there_too}
+use Rattle.read_machine.specs.Courses as courses
+use Rattle.read_machine.specs.Following.{FollowsAsked}
+use Rattle.read_machine.specs.Readings as readings
+use Rattle.read_machine.proofs.Places.{joined_owns}
 use Rattle.read_client.specs.declared.questions.Question.{Question}
 use Rattle.read_client.specs.declared.readers.Reader.{Reader}
-use Rattle.read_client.specs.declared.stages.Stage.TheVariants as stages
-use Rattle.read_client.specs.Asking.{question_of}
+use Rattle.read_client.specs.Asking.{asking, question_of}
 use Rattle.read_client.specs.Beginning.{BeginsRead, Changing}
-use Rattle.read_client.specs.Following.{Follows, FollowsStage, FollowsWhere}
+use Rattle.read_client.specs.Following.{Follows, FollowsWhere}
 use Rattle.read_client.specs.Polling.{CostAt, CostBy}
-use Rattle.read_client.specs.Reading.{opened, shard_of}
-use Rattle.machine_core.proofs.Fronts.{everywhere, there_too}
+use Rattle.read_client.specs.Reading.{opened, own_member, shard_of, unknown}
 
 abbrev FollowsThere : ℕ → Reader → Stored → List Entry → List Update → Type 0
 FollowsThere client r start es list = Follows client r start es
@@ -59,23 +54,43 @@ open_cost r shard now lease e base client front three = subst (λ (x : Reader). 
 
 -- ---- a question
 
+-- a reader with a snapshot or a step begun
+abbrev reads : Reader → Asked → Option (Option ℕ) → Reader
+reads old asked listen = record old {
+  asked = Some asked;
+  listen = listen;
+  trying = record old.trying { loader = unknown (shard_of old); calls = 0 };
+  reading = record { course = courses.begun old.reading.course.getting old.trying.loader (own_member old); asked = question_of (Some asked) listen };
+}
+
 module _ (old : Reader) (asked : Asked) (listen : Option (Option ℕ)) where
-  abbrev reads : Reader
-  reads = record old { asked = Some asked; listen = listen; stage = stages.Scan; trying = record old.trying { calls = 0 } }
-
-  pub read_follows : (new : Reader) → BeginsRead old asked listen new → (client : ℕ) (front : Option History) → FollowsWhere client front old → FollowsWhere client front new
-  read_follows new e client front f =
+  pub read_follows : (member : ℕ) → old.member ≡ Some member → (new : Reader) → BeginsRead old asked listen new → (client : ℕ)
+      (front : Option History) → FollowsWhere client front old → FollowsWhere client front new
+  read_follows member has new e client front f =
       subst (FollowsWhere client front) (sym e)
-      (there_too (shard_of old) front (FollowsThere client old) (FollowsThere client (record old { asked = Some asked; listen = listen; stage = stages.Scan; trying = record old.trying { calls = 0 } }))
-      (λ start es list h. record { trying = record { shown = h.trying.shown; owned = h.trying.owned }; member = h.member; reading = if_any (question_of (Some asked) listen) ⊤ tt }) f)
+      (there_too (shard_of old) front (FollowsThere client old) (FollowsThere client (reads old asked listen))
+      (λ start es list h. record {
+        trying = record { shown = tt; owned = h.trying.owned };
+        member = h.member;
+        reading = if_any (question_of (Some asked) listen) (readings.Follows asking client (reads old asked listen).reading start es) (record {
+          shown = h.trying.shown;
+          asked = if_any (question_of (Some asked) listen) (FollowsAsked AsReader client (reads old asked listen).reading.course start es) (record {
+            member = subst (λ (n : ℕ). JoinedAs AsReader (mine_back start es client) (shard_of old) n)
+                (sym (ap (λ (m : Option ℕ). unwrap_or m 0) has))
+                (let is = h.member in subst (λ (m : Option ℕ). IfSome m (JoinedAs AsReader (mine_back start es client) (shard_of old))) has is);
+            reading = tt;
+          });
+        });
+      }) f)
 
-  pub read_cost : (new : Reader) → BeginsRead old asked listen new → (question_of (Some asked) listen ≡ None → ⊥) → (base client : ℕ) (front : Option History) → 3 ≤ base → WhereLawful (shard_of new) front (Backwards (CostAt base client new))
+  pub read_cost : (new : Reader) → BeginsRead old asked listen new → (question_of (Some asked) listen ≡ None → ⊥) → (base client : ℕ)
+      (front : Option History) → 3 ≤ base → WhereLawful (shard_of new) front (Backwards (CostAt base client new))
   read_cost new e some base client front three =
       subst (λ (r : Reader). WhereLawful (shard_of r) front (Backwards (CostAt base client r))) (sym e)
-      (everywhere (shard_of old) front (CostAt base client (record old { asked = Some asked; listen = listen; stage = stages.Scan; trying = record old.trying { calls = 0 } }))
+      (everywhere (shard_of old) front (CostAt base client (reads old asked listen))
       (λ start es list lt. by (question_of (Some asked) listen) start es some))
     where
-      by : (q : Option Question) (start : Stored) (es : List Entry) → (q ≡ None → ⊥) → CostBy q base client (record old { asked = Some asked; listen = listen; stage = stages.Scan; trying = record old.trying { calls = 0 } }) start es
+      by : (q : Option Question) (start : Stored) (es : List Entry) → (q ≡ None → ⊥) → CostBy q base client (reads old asked listen) start es
       by None start es no_question = absurd (no_question refl)
       by (Some q) start es no_question = omega arith
 
@@ -92,41 +107,6 @@ next_asks (Some f) some e = cc
 
 -- ---- a change
 
--- who joined a member owns it
-join_of : (kind : Kind) (shard : ShardId) (member : ℕ) (call : Call) (r : Reply) → IsKindJoin kind shard member call r → IsJoin shard member call r
-join_of kind shard member (calls.Cas at_shard expected bytes) (replies.Committed n) h = (h.0, of (version_in shard n bytes) h.1)
-  where
-    of : (o : Option (ShardState × Transition)) → KindJoins o kind member → JoinsAs o member
-    of None k = absurd k
-    of (Some (s, steps.Join k2 now lease)) k = k.1
-    of (Some (s, steps.Init)) k = absurd k
-    of (Some (s, steps.Leave m)) k = absurd k
-    of (Some (s, steps.Renew m now)) k = absurd k
-    of (Some (s, steps.Advance m to)) k = absurd k
-    of (Some (s, steps.Expire now)) k = absurd k
-    of (Some (s, steps.Append m token expected new parts rows weight)) k = absurd k
-    of (Some (s, steps.Merge m token left right merged)) k = absurd k
-join_of kind shard member (calls.Cas at_shard expected bytes) (replies.Version v) h = absurd h
-join_of kind shard member (calls.Cas at_shard expected bytes) (replies.Versions vs) h = absurd h
-join_of kind shard member (calls.Cas at_shard expected bytes) replies.Mismatch h = absurd h
-join_of kind shard member (calls.Cas at_shard expected bytes) replies.Spent h = absurd h
-join_of kind shard member (calls.Cas at_shard expected bytes) replies.Truncated h = absurd h
-join_of kind shard member (calls.Cas at_shard expected bytes) (replies.Bytes b) h = absurd h
-join_of kind shard member (calls.Cas at_shard expected bytes) replies.Stored h = absurd h
-join_of kind shard member (calls.Cas at_shard expected bytes) replies.Deleted h = absurd h
-join_of kind shard member (calls.Cas at_shard expected bytes) replies.Failed h = absurd h
-join_of kind shard member (calls.Head s) r h = absurd h
-join_of kind shard member (calls.Scan s from) r h = absurd h
-join_of kind shard member (calls.Truncate s below) r h = absurd h
-join_of kind shard member (calls.Get k) r h = absurd h
-join_of kind shard member (calls.Set k b) r h = absurd h
-join_of kind shard member (calls.Delete k) r h = absurd h
-
-pub joined_owns : (kind : Kind) (own : List Answered) (shard : ShardId) (member : ℕ) → JoinedAs kind own shard member → Owns own shard member
-joined_owns kind [] shard member h = absurd h
-joined_owns kind (o ∷ own) shard member (inl h) = inl (join_of kind shard member o.entry.call o.reply h)
-joined_owns kind (o ∷ own) shard member (inr h) = inr (joined_owns kind own shard member h)
-
 module _ (old : Reader) (asked : Asked) (step : ℕ → Transition) (acts : (member : ℕ) → acts_for (step member) ≡ Some member) (none : (listen : Option (Option ℕ)) → question_of (Some asked) listen ≡ None) where
   pub change_follows : (new : Reader) → Changing old asked step new → (client : ℕ) (front : Option History) → FollowsWhere client front old → FollowsWhere client front new
   change_follows new (member, has, e) client front f =
@@ -138,7 +118,7 @@ module _ (old : Reader) (asked : Asked) (step : ℕ → Transition) (acts : (mem
           owned = subst (OwnsSome (mine_back start es client) (shard_of old)) (sym (acts member)) (joined_owns AsReader (mine_back start es client) (shard_of old) member (subst (λ (m : Option ℕ). IfSome m (JoinedAs AsReader (mine_back start es client) (shard_of old))) has h.member));
         };
         member = h.member;
-        reading = subst (λ (q : Option Question). IfSome q (λ q. FollowsStage client (record old { asked = Some asked; trying = trying.begun old.trying.loader (step member) }) start es old.stage)) (sym (none old.listen)) tt;
+        reading = subst (λ (q : Option Question). IfSome q (λ q. readings.Follows asking client old.reading start es)) (sym (none old.listen)) tt;
       }) f)
 
   pub change_cost : (new : Reader) → Changing old asked step new → (base client : ℕ) (front : Option History) → 3 ≤ base → WhereLawful (shard_of new) front (Backwards (CostAt base client new))

@@ -1,6 +1,6 @@
 -- A reader's open, close, renewal and advance are changes of its member. Entries go newest first.
-use Rattle.std.proofs.Common.{◌≡◌, ℕ, Option, Some, None, List, ◌∷◌, ◌++◌, refl, sym, ap, subst, ◌∙◌}
-use Rattle.std.specs.Prelude.{IfSome, unwrap_or}
+use Rattle.std.proofs.Common.{◌≡◌, ℕ, true, false, Option, Some, None, List, ◌∷◌, ◌++◌, refl, sym, ap, subst, ◌∙◌}
+use Rattle.std.specs.Prelude.{IfSome, IsSome, IsSomeAnd, unwrap_or}
 use Rattle.update_core.specs.declared.updates.Update.{Update}
 use Rattle.update_core.specs.Frontiers.{after}
 use Rattle.store_core.specs.declared.entries.Entry.{Entry}
@@ -24,7 +24,15 @@ use Rattle.read_client.specs.declared.readers.Reader.{Reader}
 use Rattle.read_client.specs.Asking.{question_of, step_question}
 use Rattle.read_client.specs.Following.{Follows}
 use Rattle.read_client.specs.Reading.{AsksAs, IsSound, own_member, shard_of}
-use Rattle.read_client.proofs.LegalPolls.{is_there, some_is}
+
+-- the value that is there
+pub some_is : {A : Type 0} (P : A → Type 0) (o : Option A) → IsSomeAnd o P → (x : A) × (o ≡ Some x) × P x
+some_is P None h = absurd h
+some_is P (Some x) h = (x, refl, h)
+
+pub is_there : {A : Type 0} (o : Option A) → IsSome o → (x : A) × (o ≡ Some x)
+is_there None h = absurd (let bad : false ≡ true = h in cc)
+is_there (Some x) h = (x, refl)
 
 -- what a command that asks no question changes
 pub data Changed (r : Reader) (asked : Asked) : Type 0 where

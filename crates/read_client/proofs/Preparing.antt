@@ -4,29 +4,25 @@ use Rattle.std.specs.Prelude.{IfSome}
 use Rattle.update_core.specs.declared.updates.Update.{Update}
 use Rattle.store_core.specs.declared.shards.ShardId.{ShardId}
 use Rattle.store_core.specs.declared.entries.Entry.{Entry}
+use Rattle.store_core.specs.Ports.{Answered}
 use Rattle.store_core.specs.Stores.{Stored}
 use Rattle.store_core.specs.Newest.{mine_back}
-use Rattle.state_core.specs.States.{ShardState}
+use Rattle.state_core.specs.declared.kinds.Kind.TheVariants.{Reader as AsReader}
 use Rattle.state_core.specs.VersionReading.{most}
-use Rattle.load_core.specs.declared.attempts.Attempt.TheVariants as attempts
-use Rattle.load_core.specs.declared.nexts.Next.{Next}
-use Rattle.load_core.specs.declared.nexts.Next.TheVariants as nexts
+use Rattle.history_core.specs.Members.{JoinedAs}
 use Rattle.load_core.specs.declared.tryings.Trying.{Trying}
 use Rattle.load_core.specs.Costing.{CostKept, IsPrepared}
-use Rattle.load_core.specs.Loading.{Loading}
-use Rattle.load_core.specs.Trying as trying
-use Rattle.load_core.proofs.Remaining.{prepared_cost}
-use Rattle.read_client.specs.declared.questions.Question.{Question}
-use Rattle.read_client.specs.declared.readers.Reader.{Reader}
-use Rattle.store_core.specs.Ports.{Answered}
-use Rattle.state_core.specs.declared.kinds.Kind.TheVariants.{Reader as AsReader}
-use Rattle.history_core.specs.Members.{JoinedAs}
 use Rattle.load_core.specs.Following.{FollowsTrying}
 use Rattle.load_core.proofs.Following.{prepared_follows}
-use Rattle.read_client.specs.Following.{Follows, FollowsStage}
+use Rattle.load_core.proofs.Remaining.{prepared_cost}
+use Rattle.load_core.proofs.TryFacts.{prepared_next, prepares_is}
+use Rattle.read_machine.specs.Readings as readings
+use Rattle.read_client.specs.declared.questions.Question.{Question}
+use Rattle.read_client.specs.declared.readers.Reader.{Reader}
+use Rattle.read_client.specs.Asking.{asking}
+use Rattle.read_client.specs.Following.{Follows}
 use Rattle.read_client.specs.Polling.{CostAt, CostBy, CostOver}
 use Rattle.read_client.specs.Reading.{Prepares, PreparesBy, question}
-use Rattle.read_client.proofs.Moving.{prepared}
 
 -- what preparing leaves of a reader
 pub record Readied (old ready : Reader) : Type 0 where
@@ -41,8 +37,14 @@ readied old ready p = go (question old) p
   where
     go : (q : Option Question) → PreparesBy q old ready → Readied old ready
     go None (t, m, e) =
-        let k = prepared old.trying t m in
-        record { trying = t; ready_is = e; loader = k.loader; step = k.step; calls = k.calls }
+        let is = prepares_is old.trying t m in
+        record {
+          trying = t;
+          ready_is = e;
+          loader = ap (λ (z : Trying). z.loader) is;
+          step = ap (λ (z : Trying). z.step) is;
+          calls = ap (λ (z : Trying). z.calls) is;
+        }
     go (Some q) e = record { trying = old.trying; ready_is = e; loader = refl; step = refl; calls = refl }
 
 readied_trying : (old ready : Reader) (own : List Answered) → Prepares old ready → FollowsTrying old.trying own →
@@ -60,37 +62,16 @@ prepared_on client old ready start es p f = go (question old) refl p
     go : (q : Option Question) → question old ≡ q → PreparesBy q old ready → Follows client ready start es
     go None none (t, m, e) =
         let z : Reader = record old { trying = t } in
-        let k = prepared old.trying t m in
+        let is = prepares_is old.trying t m in
         subst (λ (r : Reader). Follows client r start es) (sym e)
         (record {
           trying = subst (λ (r : Reader). FollowsTrying r.trying (mine_back start es client)) e
               (readied_trying old ready (mine_back start es client) p f.trying);
           member = subst (λ (d : ShardId). IfSome old.member (JoinedAs AsReader (mine_back start es client) d))
-              (ap (λ (l : Loading). l.shard) (sym k.loader)) f.member;
-          reading = subst (λ (q : Option Question). IfSome q (λ q. FollowsStage client z start es z.stage)) (sym none) tt;
+              (sym (ap (λ (z : Trying). z.loader.shard) is)) f.member;
+          reading = subst (λ (q : Option Question). IfSome q (λ q. readings.Follows asking client z.reading start es)) (sym none) tt;
         })
     go (Some q) some e = subst (λ (r : Reader). Follows client r start es) (sym e) f
-
--- once it is prepared no attempt comes before the call
-prepared_next : (t new : Trying) → trying.Prepares t new → IsPrepared new.next
-prepared_next t new prepares = go t.next refl prepares
-  where
-    going_to : (next : Next) → new ≡ trying.going t next → IsPrepared next → IsPrepared new.next
-    going_to next e is = subst (λ (z : Trying). IsPrepared z.next) (sym e) is
-
-    same : IsPrepared t.next → new ≡ t → IsPrepared new.next
-    same is e = subst (λ (z : Trying). IsPrepared z.next) (sym e) is
-
-    on : (c : Option ShardState) → trying.PreparesOn c t new → IsPrepared new.next
-    on None e = going_to nexts.Scan e tt
-    on (Some s) (attempts.Refused refusal, a, e) = going_to nexts.Scan e tt
-    on (Some s) (attempts.Spent, a, e) = going_to nexts.Scan e tt
-    on (Some s) (attempts.Ready r, a, e) = going_to (nexts.Cas r) e tt
-
-    go : (n : Next) → t.next ≡ n → trying.PreparesBy n t new → IsPrepared new.next
-    go nexts.Attempt e p = on t.loader.cached p
-    go nexts.Scan e p = same (subst IsPrepared (sym e) tt) p
-    go (nexts.Cas r) e p = same (subst IsPrepared (sym e) tt) p
 
 -- the reader that was prepared asks what it asked before
 asks_same : (old ready : Reader) → Prepares old ready → question ready ≡ question old

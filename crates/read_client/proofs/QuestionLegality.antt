@@ -1,50 +1,52 @@
--- An answer to a question is legal where the collection gives it at the last answered Scan. Entries go newest first.
-use Rattle.std.proofs.Common.{◌≡◌, ℕ, Option, Some, None, List, ◌∷◌, ◌++◌, refl, sym, ap, subst, ◌∙◌}
-use Rattle.std.specs.Prelude.{⊤, IsSomeAnd}
-use Rattle.std.specs.List.{AllByRecursion}
+-- A legal answer to a question is legal as an answer to the command that asks it. Entries go newest first.
+use Rattle.std.proofs.Common.{◌≡◌, ℕ, ◌<◌, Option, Some, None, List, ◌∷◌, ◌++◌, refl, sym, ap, subst, ◌∙◌}
+use Rattle.std.specs.Prelude.{IfSome, IsSomeAnd}
 use Rattle.update_core.specs.declared.updates.Update.{Update}
-use Rattle.update_core.specs.Collections.{Collection as PlainCollection, behind, content, early, ended, late, listen_answer, quiet, snapshot_answer, step}
 use Rattle.update_core.specs.Frontiers.{after}
-use Rattle.update_core.specs.Updates.{slice_of, sum_of}
+use Rattle.store_core.specs.declared.shards.ShardId.{ShardId}
 use Rattle.store_core.specs.declared.entries.Entry.{Entry}
-use Rattle.store_core.specs.declared.part_keys.PartKey.{PartKey}
 use Rattle.store_core.specs.Stores.{Stored}
-use Rattle.state_core.specs.declared.members.Member.{Member}
-use Rattle.state_core.specs.Refusals.{member_of}
-use Rattle.state_core.specs.States.{ShardState}
+use Rattle.store_core.specs.Histories.{reply}
+use Rattle.store_core.specs.Ports.{OfOthers}
+use Rattle.store_core.specs.Newest.{replay_back}
+use Rattle.state_core.specs.VersionReading.{most}
 use Rattle.history_core.specs.declared.asked.Asked.{Asked}
 use Rattle.history_core.specs.declared.asked.Asked.TheVariants as asks
 use Rattle.history_core.specs.declared.read_answers.ReadAnswer.{ReadAnswer}
 use Rattle.history_core.specs.declared.read_answers.ReadAnswer.TheVariants as answers
-use Rattle.history_core.specs.Laws.{LastIs}
-use Rattle.history_core.specs.Legal.{AtLast, LegalOfReader, LegalReadBack, LegalStep, PartsGot, Reads, ReadsAt, collection_in, snapshot_keys, step_keys}
-use Rattle.history_core.specs.Placing.{AtLastScan, GotSinceScan, Placed, places, store_at}
-use Rattle.history_core.specs.Stands.{accepted}
-use Rattle.change_core.proofs.Members.{found_stands}
+use Rattle.history_core.specs.Discipline.{LawfulBack}
+use Rattle.history_core.specs.Legal.{AtLast, LegalOfReader, LegalReadBack, LegalStep}
+use Rattle.history_core.specs.Placing.{AtLastScan, Placed, places}
+use Rattle.history_core.specs.Stands.{StandsFor}
+use Rattle.load_core.specs.declared.polls.Poll.{Poll}
+use Rattle.load_core.specs.declared.polls.Poll.TheVariants as polls
+use Rattle.load_core.specs.Trying as trying
+use Rattle.machine_core.specs.Machines as machines
+use Rattle.read_machine.specs.Readings as readings
 use Rattle.read_client.specs.declared.questions.Question.{Question}
 use Rattle.read_client.specs.declared.questions.Question.TheVariants as questions
 use Rattle.read_client.specs.declared.readers.Reader.{Reader}
-use Rattle.read_client.specs.Asking.{question_of, step_question}
+use Rattle.read_client.specs.Asking.{QuestionLegal as LegalAsked, QuestionReads as ReadsAsked, asking, question_of, step_question}
+use Rattle.read_client.specs.Following.{Follows}
 use Rattle.read_client.specs.Machining.{command_in, kept}
-use Rattle.read_client.specs.Polling.{ReadsParts, RowGot}
-use Rattle.read_client.specs.Reading.{AsksAs, rows_answer, shard_of, upper_of}
-use Rattle.read_client.proofs.LegalPolls.{is_there}
+use Rattle.read_client.specs.Polling.{ReadsParts}
+use Rattle.read_client.specs.Reading.{AsksAs, IsLent, IsOpen, IsSound, MovesAfterRead, call_of, question, shard_of}
+use Rattle.read_client.proofs.Changing.{is_there}
+use Rattle.read_client.proofs.FollowsOn.{read_asking, read_called}
+use Rattle.read_client.proofs.LegalPolls.{LegalOf, LegalPoll, legal_poll}
+use Rattle.read_client.proofs.Questioning.{read_keeps}
+use Rattle.read_client.proofs.Sound.{lent_by}
 
 module _ (client : ℕ) (r : Reader) (list : List Update) (start : Stored) (e : Entry) (others es : List Entry) (calls member : ℕ) (is : r.member ≡ Some member) where
   -- the command's entries
   abbrev pub ps : List Placed
   ps = places client calls (e ∷ (others ++ es))
 
-  -- an answer to a question is legal
-  abbrev pub QuestionLegal : Question → ReadAnswer → Type 0
-  QuestionLegal (questions.Content t) answer = LegalOfReader list start (shard_of r) member r.listen ps (asks.Snapshot t) answer
-  QuestionLegal (questions.Step f) answer = LegalStep list start (shard_of r) member ps f answer
+  abbrev QuestionLegal : Question → ReadAnswer → Type 0
+  QuestionLegal q answer = LegalAsked q (shard_of r) member start ps list answer
 
-  -- and where it has rows, each part was got, and each row of a step stands in one
-  abbrev pub QuestionReads : Question → ReadAnswer → Type 0
-  QuestionReads (questions.Content t) (answers.Rows rows) = PartsGot start (shard_of r) (snapshot_keys t) ps
-  QuestionReads (questions.Step f) (answers.Step from to rows) = PartsGot start (shard_of r) (step_keys from) ps × AllByRecursion (RowGot start (shard_of r) ps) rows
-  QuestionReads q answer = ⊤
+  abbrev QuestionReads : Question → ReadAnswer → Type 0
+  QuestionReads q answer = ReadsAsked q (shard_of r) start ps answer
 
   -- both parts of a legal answer
   abbrev pub Told : Question → ReadAnswer → Type 0
@@ -108,43 +110,62 @@ module _ (client : ℕ) (r : Reader) (list : List Update) (start : Stored) (e : 
       )
   question_done q other same h answer (legal, reads) = absurd (let bad : None ≡ Some q = same in cc)
 
-  -- ---- at the last answered Scan, where the member stands
+-- a question is that of an open command
+asked_there : (o : Option Asked) (listen : Option (Option ℕ)) (q : Question) → question_of o listen ≡ Some q → (a : Asked) × (o ≡ Some a)
+asked_there None listen q h = absurd (let bad : None ≡ Some q = h in cc)
+asked_there (Some a) listen q h = (a, refl)
 
-  module _ (p : Placed) (at : (P : Placed → Type 0) → P p → AtLastScan (shard_of r) P ps) (s : ShardState) (last : LastIs (store_at start p) (shard_of r) s.number s)
-      (m : Member) (found : member_of member s.members ≡ Some m) where
-    -- the accepted updates there
-    abbrev pub there : List Update
-    there = accepted (shard_of r) list start p.before
+-- both parts of a legal answer, at the end of these entries
+abbrev ToldAt : ShardId → ℕ → Stored → List Placed → List Update → Question → ReadAnswer → Type 0
+ToldAt shard member start ps list q answer = LegalAsked q shard member start ps list answer × ReadsAsked q shard start ps answer
 
-    reads_at : (P : PlainCollection → Type 0) → P (collection_in there s) → Reads list start (shard_of r) member P ps
-    reads_at P h = at (ReadsAt list start (shard_of r) member P) (s.number, s, last, (found_stands member m (λ w. ⊤) s.members found tt, h))
+-- each poll of a question is legal
+pub read_legal : (client : ℕ) (r new : Reader) (poll : Poll ReadAnswer) (list : List Update) (start : Stored) (e : Entry) (others es : List Entry) →
+    IsOpen r → IsSound r → Follows client r start es → e.client ≡ client → call_of r ≡ Some e.call → OfOthers client others →
+    StandsFor start (shard_of r) list → LawfulBack start (e ∷ (others ++ es)) → (q : Question) → question r ≡ Some q →
+    new.trying.calls ≡ trying.more r.trying.calls → MovesAfterRead r (reply (replay_back start (others ++ es)) e) new poll →
+    LegalPoll client r new poll start (e ∷ (others ++ es)) list
+read_legal client r new poll list start e others es is_open s f own call_is of st lawful q some counts (w, moves, shard, now) =
+    legal_poll client r list start e others es (trying.more r.trying.calls) new told poll counts told_is (by poll
+    (read_keeps.legal client r.reading w e.call poll list start e others es
+    (read_asking start list client r e others es is_open s call_is own of st lawful f q some)
+    (read_called start list client r e others es is_open s call_is own of st lawful f q some) moves))
+  where
+    lent : IsLent r
+    lent = lent_by r q s some
 
-    parts_at : (parts : ShardState → List PartKey) → AllByRecursion (λ k. GotSinceScan start (shard_of r) k ps) (parts s) → PartsGot start (shard_of r) parts ps
-    parts_at parts h = at (AtLast start (shard_of r) (λ n s. AllByRecursion (λ k. GotSinceScan start (shard_of r) k ps) (parts s))) (s.number, s, last, h)
+    told : Asked
+    told = (asked_there r.asked r.listen q some).0
 
-    pub early_told : (t : ℕ) → snapshot_answer (collection_in there s) t ≡ early s.since → Told (questions.Content t) (answers.Early s.since)
-    early_told t h = (reads_at (λ c. snapshot_answer c t ≡ early s.since) h, tt)
+    told_is : r.asked ≡ Some told
+    told_is = (asked_there r.asked r.listen q some).1
 
-    pub late_told : (t : ℕ) → snapshot_answer (collection_in there s) t ≡ late s.upper → Told (questions.Content t) (answers.Late s.upper)
-    late_told t h = (reads_at (λ c. snapshot_answer c t ≡ late s.upper) h, tt)
+    asks_told : question_of (Some told) r.listen ≡ Some q
+    asks_told = subst (λ (o : Option Asked). question_of o r.listen ≡ Some q) told_is some
 
-    pub rows_told : (t : ℕ) (reader : Reader) (rows : List Update) → snapshot_answer (collection_in there s) t ≡ content (sum_of there t) → sum_of rows t ≡ sum_of there t →
-        AllByRecursion (λ k. GotSinceScan start (shard_of r) k ps) (snapshot_keys t s) → Told (questions.Content t) (rows_answer reader (questions.Content t) rows)
-    rows_told t reader rows h same got = (reads_at (λ c. snapshot_answer c t ≡ content (sum_of rows t)) (h ∙ ap content (sym same)), parts_at (snapshot_keys t) got)
+    asks_as : AsksAs (shard_of r) r.member r.trying.step r.listen told
+    asks_as = let h = s.asked in
+        subst (λ (o : Option Asked). IfSome o (λ a. AsksAs (shard_of r) r.member r.trying.step r.listen a)) told_is h
 
-    pub behind_told : (f : Option ℕ) → listen_answer (collection_in there s) f ≡ behind s.since → Told (questions.Step f) (answers.Early s.since)
-    behind_told f h = (reads_at (λ c. listen_answer c f ≡ behind s.since) h, tt)
+    counted_is : w.course.calls ≡ trying.more r.trying.calls
+    counted_is = read_keeps.counted r.reading w (reply (replay_back start (others ++ es)) e) poll moves ∙ ap trying.more lent.calls
 
-    pub ended_told : (f : Option ℕ) → listen_answer (collection_in there s) f ≡ ended → Told (questions.Step f) answers.Ended
-    ended_told f h = (reads_at (λ c. listen_answer c f ≡ ended) h, tt)
+    low : trying.more r.trying.calls < most → w.course.calls < most
+    low less = subst (λ (n : ℕ). n < most) (sym counted_is) less
 
-    pub quiet_told : (f : Option ℕ) → listen_answer (collection_in there s) f ≡ quiet s.upper → Told (questions.Step f) (answers.Quiet s.upper)
-    quiet_told f h = (reads_at (λ c. listen_answer c f ≡ quiet s.upper) h, tt)
-
-    pub step_told : (f : Option ℕ) (reader : Reader) (rows : List Update) → reader.trying.loader.cached ≡ Some s → listen_answer (collection_in there s) f ≡ step (slice_of there f s.upper) s.upper →
-        slice_of rows f s.upper ≡ slice_of there f s.upper → AllByRecursion (λ k. GotSinceScan start (shard_of r) k ps) (step_keys f s) →
-        AllByRecursion (RowGot start (shard_of r) ps) (slice_of rows f s.upper) → Told (questions.Step f) (rows_answer reader (questions.Step f) rows)
-    step_told f reader rows cached h same got each =
-        let upper : upper_of reader.trying.loader.cached ≡ s.upper = ap upper_of cached in
-        subst (λ (u : Option ℕ). Told (questions.Step f) (answers.Step f u (slice_of rows f u))) (sym upper)
-        ((refl, reads_at (λ c. listen_answer c f ≡ step (slice_of rows f s.upper) s.upper) (h ∙ ap (λ (us : List Update). step us s.upper) (sym same))), (parts_at (step_keys f) got, each))
+    by : (p : Poll ReadAnswer) →
+        machines.LegalPoll (readings.words asking) client (readings.kept r.reading) w.course.calls p start (e ∷ (others ++ es)) list →
+        LegalOf client r list start e others es (trying.more r.trying.calls) told p
+    by polls.Busy h = tt
+    by polls.More h = tt
+    by polls.Fault h = tt
+    by polls.Spent h = λ less. subst (λ (n : ℕ). AtLastScan (shard_of r) (AtLast start (shard_of r) (λ number s. number ≡ most)) (places client n (e ∷ (others ++ es))))
+        counted_is (subst (λ (d : ShardId). AtLastScan d (AtLast start d (λ number s. number ≡ most)) (places client w.course.calls (e ∷ (others ++ es))))
+        lent.shard (h (low less)))
+    by (polls.Damaged damage) h = h
+    by (polls.Done answer) h = λ less.
+        let legal : ToldAt r.reading.course.loader.shard r.reading.course.member start (places client w.course.calls (e ∷ (others ++ es))) list q answer =
+        subst (λ (o : Option Question). IfSome o (λ x. ToldAt r.reading.course.loader.shard r.reading.course.member start (places client w.course.calls (e ∷ (others ++ es))) list x answer)) (s.asks ∙ some) (h (low less)) in
+        question_done client r list start e others es (trying.more r.trying.calls) r.reading.course.member lent.member q told asks_told asks_as answer
+        (subst (λ (n : ℕ). ToldAt (shard_of r) r.reading.course.member start (places client n (e ∷ (others ++ es))) list q answer) counted_is
+        (subst (λ (d : ShardId). ToldAt d r.reading.course.member start (places client w.course.calls (e ∷ (others ++ es))) list q answer) lent.shard legal))

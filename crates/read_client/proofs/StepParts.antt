@@ -13,10 +13,9 @@ use Rattle.state_core.proofs.ListLemmas.{among_split, bool_cases}
 use Rattle.history_core.specs.Discipline.{GotAs, Hold, IsGot}
 use Rattle.history_core.specs.Placing.{places}
 use Rattle.history_core.specs.Readings.{rows_in}
-use Rattle.read_client.specs.Following.{own_count}
-use Rattle.read_client.specs.Polling.{RowGot}
-use Rattle.read_client.proofs.Places.{NoScanOf}
-use Rattle.read_client.proofs.Stretch.{replay_behind}
+use Rattle.read_machine.specs.Questions.{NoScanOf, own_count}
+use Rattle.read_machine.proofs.Stretch.{replay_behind}
+use Rattle.read_client.specs.Asking.{RowGot}
 
 -- the row stands in the part that P gives bytes of
 pub record RowIn (P : PartKey → List ℕ → Type 0) (row : Update) : Type 0 where

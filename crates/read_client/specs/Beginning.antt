@@ -6,7 +6,9 @@ use Rattle.load_core.specs.declared.begin_faults.BeginFault.{BeginFault}
 use Rattle.load_core.specs.declared.begin_faults.BeginFault.TheVariants as faults
 use Rattle.load_core.specs.Trying as trying
 use Rattle.read_client.specs.declared.readers.Reader.{Reader}
-use Rattle.read_client.specs.declared.stages.Stage.TheVariants as stages
+use Rattle.read_machine.specs.Courses as courses
+use Rattle.read_client.specs.Asking.{question_of}
+use Rattle.read_client.specs.Reading.{own_member, shard_of, unknown}
 
 -- A client has no member before it has joined, and none when it has left, wasn't let in or was found to be gone; then nothing
 -- can be asked of it any more.
@@ -28,7 +30,12 @@ next_fault r = listen_fault (member_fault r.asked r.member) r.listen
 -- a reader with a snapshot or a step begun, with this listen
 abbrev pub BeginsRead : Reader → Asked → Option (Option ℕ) → Reader → Type 0
 BeginsRead old asked listen new =
-    new ≡ record old { asked = Some asked; listen = listen; stage = stages.Scan; trying = record old.trying { calls = 0 } }
+    new ≡ record old {
+      asked = Some asked;
+      listen = listen;
+      trying = record old.trying { loader = unknown (shard_of old); calls = 0 };
+      reading = record { course = courses.begun old.reading.course.getting old.trying.loader (own_member old); asked = question_of (Some asked) listen };
+    }
 
 -- a reader with a change of its member begun
 abbrev pub Changing : Reader → Asked → (ℕ → Transition) → Reader → Type 0

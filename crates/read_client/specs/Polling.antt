@@ -1,33 +1,29 @@
 -- What one poll of a reader does, answers and costs. Entries go newest first.
-use Rattle.std.specs.Prelude.{⊤, ◌≡◌, ◌⊎◌, ℕ, ◌+◌, ◌<◌, ◌≤◌, Option, Some, None, List, [], ◌∷◌, length}
+use Rattle.std.specs.Prelude.{⊤, ◌≡◌, ◌⊎◌, ℕ, ◌+◌, ◌<◌, Option, Some, None, List}
 use Rattle.std.specs.List.{AllByRecursion}
 use Rattle.update_core.specs.declared.updates.Update.{Update}
-use Rattle.store_core.specs.declared.part_keys.PartKey.{PartKey}
 use Rattle.store_core.specs.declared.shards.ShardId.{ShardId}
 use Rattle.store_core.specs.declared.calls.Call.{Call}
 use Rattle.store_core.specs.declared.replies.Reply.{Reply}
 use Rattle.store_core.specs.declared.entries.Entry.{Entry}
 use Rattle.store_core.specs.Stores.{Stored}
-use Rattle.state_core.specs.Lists.{Among}
 use Rattle.state_core.specs.declared.transitions.Transition.{Transition}
 use Rattle.state_core.specs.VersionReading.{most}
 use Rattle.history_core.specs.declared.asked.Asked.{Asked}
 use Rattle.history_core.specs.declared.asked.Asked.TheVariants as asks
 use Rattle.history_core.specs.declared.read_answers.ReadAnswer.{ReadAnswer}
 use Rattle.history_core.specs.declared.read_answers.ReadAnswer.TheVariants as answers
-use Rattle.history_core.specs.Costs.{failed_calls, WithinReads, read_base}
-use Rattle.history_core.specs.Discipline.{IsGot}
 use Rattle.history_core.specs.Legal.{PartsGot, snapshot_keys, step_keys}
-use Rattle.history_core.specs.Placing.{IsAnsweredScan, Placed, places, reply_at}
-use Rattle.history_core.specs.Readings.{rows_in}
+use Rattle.history_core.specs.Placing.{places}
 use Rattle.load_core.specs.declared.polls.Poll.{Poll}
 use Rattle.load_core.specs.declared.polls.Poll.TheVariants as polls
 use Rattle.load_core.specs.Costing.{CostKept, CostEnded}
 use Rattle.load_core.specs.Effects.{CommitsFirst, CommitsNone, CommitsStep}
 use Rattle.read_client.specs.declared.questions.Question.{Question}
 use Rattle.read_client.specs.declared.readers.Reader.{Reader}
-use Rattle.read_client.specs.declared.stages.Stage.{Stage}
-use Rattle.read_client.specs.declared.stages.Stage.TheVariants as stages
+use Rattle.read_machine.specs.declared.stages.Stage.{Stage}
+use Rattle.read_machine.specs.Following.{OverStage, ReadCost}
+use Rattle.read_client.specs.Asking.{RowGot}
 use Rattle.read_client.specs.Reading.{question}
 
 -- ---- what a poll does
@@ -58,17 +54,6 @@ IsRefusal _ = ⊥
 
 -- ---- what it answers
 
--- the entry is a Get, answered with bytes that are a part in which the row stands
-abbrev pub GetsRow : Stored → Update → Placed → Type 0
-GetsRow start row p =
-    (key : PartKey) × (bytes : List ℕ) × (part : List Update) × IsGot key bytes p.entry.call (reply_at start p) × (rows_in bytes ≡ Some part) ×
-    Among (λ other. other ≡ row) part
-
--- since the last answered Scan a Get was answered with bytes that are a part in which the row stands
-abbrev pub RowGot : Stored → ShardId → List Placed → Update → Type 0
-RowGot start shard [] row = ⊥
-RowGot start shard (p ∷ ps) row = (¬ IsAnsweredScan shard p) × (GetsRow start row p ⊎ RowGot start shard ps row)
-
 -- Where rows are answered, each part that the question is about was answered with bytes since the command's last Scan, and each row
 -- of a step stands in a part that a Get of the command was answered with since then.
 abbrev pub ReadsParts : ℕ → ShardId → ℕ → ReadAnswer → Stored → List Entry → Asked → Type 0
@@ -80,31 +65,18 @@ ReadsParts client shard calls _ start es asked = ⊤
 
 -- ---- what it costs
 
--- The calls of a question and those that remain, but for further failures: before its Scan there were only failed ones; then
--- one for each part that is left, and one more Scan.
-abbrev pub ReadCost : ℕ → Reader → Stage → List Entry → Type 0
-ReadCost client r stages.Scan es = r.trying.calls ≤ failed_calls client r.trying.calls es
-ReadCost client r stages.Get es = WithinReads r.trying.calls 0 (1 + r.getting.place) (failed_calls client r.trying.calls es)
-ReadCost client r (stages.Check key) es = WithinReads r.trying.calls 1 (read_base (length r.getting.keys)) (failed_calls client r.trying.calls es)
-
 -- the calls made and those that remain are within the bound
 abbrev pub CostBy : Option Question → ℕ → ℕ → Reader → Stored → List Entry → Type 0
 CostBy None base client r start es = CostKept base client r.trying start es
-CostBy (Some q) base client r start es = ReadCost client r r.stage es
+CostBy (Some q) base client r start es = ReadCost client r.reading.course r.reading.course.stage es
 
 abbrev pub CostAt : ℕ → ℕ → Reader → Stored → List Entry → List Update → Type 0
 CostAt base client r start es list = r.trying.calls < most → CostBy (question r) base client r start es
 
--- A command that reads and has ended: at its Scan but for failed calls that was the only call; else it made one for each part of
--- the state that it read from, and two Scans at most.
-abbrev pub OverStage : ℕ → Reader → Stage → List Entry → Type 0
-OverStage client r stages.Scan es = WithinReads r.trying.calls 0 1 (failed_calls client r.trying.calls es)
-OverStage client r _ es = WithinReads r.trying.calls 0 (read_base (length r.getting.keys)) (failed_calls client r.trying.calls es)
-
 -- a command that has ended has made no more
 abbrev pub OverBy : Option Question → ℕ → ℕ → Stage → Reader → Stored → List Entry → Type 0
 OverBy None base client stage r start es = CostEnded base client r.trying start es
-OverBy (Some q) base client stage r start es = OverStage client r stage es
+OverBy (Some q) base client stage r start es = OverStage client r.reading.course stage es
 
 abbrev pub CostOver : ℕ → ℕ → Reader → Reader → Stored → List Entry → List Update → Type 0
-CostOver base client old new start es list = new.trying.calls < most → OverBy (question old) base client old.stage new start es
+CostOver base client old new start es list = new.trying.calls < most → OverBy (question old) base client old.reading.course.stage new start es

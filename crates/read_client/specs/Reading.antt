@@ -1,55 +1,48 @@
 -- A reader: what it does next, and what a reply makes of it.
-use Rattle.std.specs.Prelude.{⊤, ◌≡◌, ℕ, Option, Some, None, IsSome, IfSome, IsSomeAnd, unwrap_or, if◌then◌else◌, Result, Ok, Err, List, [], ◌∷◌}
-use Rattle.update_core.specs.declared.updates.Update.{Update}
+use Rattle.std.specs.Prelude.{◌≡◌, ℕ, Option, Some, None, IsSome, IfSome, IsSomeAnd, unwrap_or, []}
 use Rattle.update_core.specs.Frontiers.{after}
-use Rattle.update_core.specs.Updates.{slice_of, sum_of}
-use Rattle.store_core.specs.declared.part_keys.PartKey.{PartKey}
 use Rattle.store_core.specs.declared.shards.ShardId.{ShardId}
 use Rattle.store_core.specs.declared.calls.Call.{Call}
 use Rattle.store_core.specs.declared.replies.Reply.{Reply}
-use Rattle.store_core.specs.declared.replies.Reply.TheVariants as replies
 use Rattle.state_core.specs.declared.kinds.Kind.TheVariants.{Reader as AsReader}
 use Rattle.state_core.specs.declared.transitions.Transition.{Transition}
 use Rattle.state_core.specs.declared.transitions.Transition.TheVariants.{Join, Leave, Renew, Advance}
-use Rattle.state_core.specs.States.{ShardState}
 use Rattle.history_core.specs.declared.asked.Asked.{Asked}
 use Rattle.history_core.specs.declared.asked.Asked.TheVariants as asks
 use Rattle.history_core.specs.declared.read_answers.ReadAnswer.{ReadAnswer}
 use Rattle.history_core.specs.declared.read_answers.ReadAnswer.TheVariants as answers
-use Rattle.load_core.specs.declared.damages.Damage.{Damage}
 use Rattle.load_core.specs.declared.damages.Damage.TheVariants as damages
-use Rattle.load_core.specs.declared.fetches.Fetched.{Fetched}
-use Rattle.load_core.specs.declared.fetches.Fetched.TheVariants as fetches
-use Rattle.load_core.specs.declared.gettings.Getting.{Getting}
 use Rattle.load_core.specs.declared.polls.Poll.{Poll}
 use Rattle.load_core.specs.declared.polls.Poll.TheVariants as polls
 use Rattle.load_core.specs.declared.tries.Tried.{Tried}
 use Rattle.load_core.specs.declared.tryings.Trying.{Trying}
 use Rattle.load_core.specs.Getting as getting
-use Rattle.load_core.specs.Loading.{newest_after, scan_of}
+use Rattle.load_core.specs.Loading.{Loading}
 use Rattle.load_core.specs.Trying as trying
 use Rattle.load_core.specs.Trying.{IsScanning}
 use Rattle.change_core.specs.declared.outcomes.Outcome.{Outcome}
 use Rattle.change_core.specs.declared.outcomes.Outcome.TheVariants as outcomes
-use Rattle.change_core.specs.Changes.{is_gone, number_of, outcome}
-use Rattle.read_client.specs.declared.questions.Look.{Look}
-use Rattle.read_client.specs.declared.questions.Look.TheVariants as looks
+use Rattle.change_core.specs.Changes.{number_of, outcome}
+use Rattle.read_machine.specs.declared.readings.Reading.{Reading}
+use Rattle.read_machine.specs.Courses as courses
+use Rattle.read_machine.specs.Courses.{counted, read_call}
+use Rattle.read_machine.specs.Readings as readings
 use Rattle.read_client.specs.declared.questions.Question.{Question}
-use Rattle.read_client.specs.declared.questions.Question.TheVariants as questions
 use Rattle.read_client.specs.declared.readers.Reader.{Reader}
-use Rattle.read_client.specs.declared.stages.Stage.{Stage}
-use Rattle.read_client.specs.declared.stages.Stage.TheVariants as stages
-use Rattle.read_client.specs.Asking.{look_of, question_of}
+use Rattle.read_client.specs.Asking.{asking, question_of}
+
+-- nothing is known of the shard
+abbrev pub unknown : ShardId → Loading
+unknown shard = record { shard = shard; cached = None }
 
 -- a reader whose open has begun
 abbrev pub opened : ShardId → ℕ → ℕ → Reader
 opened shard now lease = record {
-  trying = trying.begun (record { shard = shard; cached = None }) (Join AsReader now lease);
+  trying = trying.begun (unknown shard) (Join AsReader now lease);
   member = None;
   asked = Some (asks.OpenReader shard now lease);
   listen = None;
-  stage = stages.Scan;
-  getting = getting.begun [];
+  reading = record { course = courses.begun (getting.begun []) (unknown shard) 0; asked = None };
 }
 
 -- a command is open
@@ -79,38 +72,28 @@ AsksAs at_shard member step listen _ = ⊥
 abbrev pub IsAsked : Reader → Asked → Type 0
 IsAsked r asked = AsksAs (shard_of r) r.member r.trying.step r.listen asked
 
--- the parts that are got are those that the newest state has for the question, and one is left
-pub record IsGetting (r : Reader) (q : Question) (s : ShardState) : Type 0 where
-  pub keys : look_of q s (unwrap_or r.member 0) ≡ looks.Parts r.getting.keys
-  pub left : getting.IsOpen r.getting
-
--- what it holds of a question, by its stage
-abbrev pub IsReading : Reader → Stage → Question → Type 0
-IsReading r stages.Scan q = ⊤
-IsReading r stages.Get q = IsSomeAnd r.trying.loader.cached (IsGetting r q)
-IsReading r (stages.Check key) q = IsSomeAnd r.trying.loader.cached (IsGetting r q) × (getting.key_of r.getting ≡ Some key)
+-- The question that is open is asked for the own member, of the same shard, after as many calls, and no version is ready meanwhile.
+pub record IsLent (r : Reader) : Type 0 where
+  pub member : r.member ≡ Some r.reading.course.member
+  pub shard : r.reading.course.loader.shard ≡ shard_of r
+  pub calls : r.reading.course.calls ≡ r.trying.calls
+  pub idle : IsScanning r.trying.next
 
 -- what it holds besides any history
 pub record IsSound (r : Reader) : Type 0 where
   pub trying : trying.IsSound r.trying
-  pub getting : getting.IsSound r.getting
+  pub reading : readings.IsSound asking r.reading
   pub asked : IfSome r.asked (IsAsked r)
-  pub known : IfSome r.member (λ member. IsSome r.trying.loader.cached)
-  pub reading : IfSome (question r) (IsReading r r.stage)
-  -- no version is ready while no transition is tried
-  pub idle : IfSome (question r) (λ q. IsScanning r.trying.next)
+  pub asks : r.reading.asked ≡ question r
+  pub lent : IfSome (question r) (λ q. IsLent r)
+  pub known : question r ≡ None → IfSome r.member (λ member. IsSome r.trying.loader.cached)
+  -- no version is ready while no command is open
   pub rests : r.asked ≡ None → IsScanning r.trying.next
-
--- the call that a question makes next, by its stage
-abbrev pub read_call : Reader → Stage → Option Call
-read_call r stages.Scan = Some (scan_of r.trying.loader)
-read_call r stages.Get = getting.call_of r.getting
-read_call r (stages.Check key) = Some (scan_of r.trying.loader)
 
 -- the call that it makes next
 abbrev pub call_by : Reader → Option Question → Option Call
 call_by r None = Some (trying.call_of r.trying)
-call_by r (Some q) = read_call r r.stage
+call_by r (Some q) = read_call r.reading.course r.reading.course.stage
 
 abbrev pub call_of : Reader → Option Call
 call_of r = call_by r (question r)
@@ -125,18 +108,11 @@ Prepares old new = PreparesBy (question old) old new
 
 -- ---- the newest state
 
-abbrev pub upper_of : Option ShardState → Option ℕ
-upper_of None = Some 0
-upper_of (Some s) = s.upper
-
 abbrev pub own_member : Reader → ℕ
 own_member r = unwrap_or r.member 0
 
 abbrev pub newest_number : Reader → ℕ
 newest_number r = number_of r.trying.loader.cached
-
-abbrev pub expired : Reader → Poll ReadAnswer
-expired r = polls.Done (answers.Expired (newest_number r))
 
 -- the member is shown otherwise than it was left
 abbrev pub strange : Reader → Poll ReadAnswer
@@ -206,86 +182,32 @@ MovesAfterTry old reply new poll =
 
 -- ---- what a reply to a call of a question comes to
 
--- with a newest state
-abbrev pub holding : Reader → ShardState → Reader
-holding r s = record r { trying = record r.trying { loader = record { shard = shard_of r; cached = Some s } } }
+-- one more call was made, and the question stands so
+abbrev pub reading_on : Reader → Reading Question → Reader
+reading_on r w = record r { trying = record r.trying { calls = trying.more r.trying.calls }; reading = w }
 
--- the answer from rows that were got
-abbrev pub rows_answer : Reader → Question → List Update → ReadAnswer
-rows_answer r (questions.Content t) rows = answers.Rows (sum_of rows t)
-rows_answer r (questions.Step f) rows = answers.Step f (upper_of r.trying.loader.cached) (slice_of rows f (upper_of r.trying.loader.cached))
+-- the newest state is the transition's again
+abbrev pub given_back : Reader → Reader
+given_back r = record r {
+  trying = record r.trying { loader = r.reading.course.loader };
+  reading = record r.reading { course = record r.reading.course { loader = unknown r.reading.course.loader.shard } };
+}
 
--- what is answered after a Scan, by what the newest state says
-abbrev pub parts_poll : Reader → Question → List PartKey → Poll ReadAnswer
-parts_poll r q [] = polls.Done (rows_answer r q [])
-parts_poll r q (k ∷ ks) = polls.More
+-- where the question has ended
+abbrev pub taken_back : Reader → Poll ReadAnswer → Reader
+taken_back r polls.Busy = r
+taken_back r polls.More = r
+taken_back r polls.Fault = r
+taken_back r _ = given_back r
 
-abbrev pub look_poll : Reader → Question → Look → Poll ReadAnswer
-look_poll r q looks.Gone = expired r
-look_poll r q looks.Strange = strange r
-look_poll r q (looks.Answer answer) = polls.Done answer
-look_poll r q (looks.Parts keys) = parts_poll r q keys
-
--- where parts are to be read, they come next
-abbrev pub parts_staged : Reader → List PartKey → Reader
-parts_staged r [] = r
-parts_staged r (k ∷ ks) = record r { stage = stages.Get; getting = getting.begun (k ∷ ks) }
-
-abbrev pub staged : Reader → Look → Reader
-staged r (looks.Parts keys) = parts_staged r keys
-staged r _ = r
-
--- what the newest state after a Scan comes to
-abbrev pub GoesBy : Reader → Question → Look → Reader → Poll ReadAnswer → Type 0
-GoesBy r q look new poll = (poll ≡ look_poll r q look) × (new ≡ after_poll (staged r look) poll)
-
-abbrev pub LooksAt : Reader → Question → Result (Option ShardState) Damage → Reader → Poll ReadAnswer → Type 0
-LooksAt old q (Ok (Some s)) new poll = GoesBy (holding old s) q (look_of q s (own_member old)) new poll
-LooksAt old q (Ok None) new poll = ⊥
-LooksAt old q (Err damage) new poll = (poll ≡ polls.Damaged damage) × (new ≡ after_poll old poll)
-
-abbrev pub MovesAfterScan : Reader → Question → Reply → Reader → Poll ReadAnswer → Type 0
-MovesAfterScan old q (replies.Versions vs) new poll = LooksAt old q (newest_after (shard_of old) old.trying.loader.cached vs) new poll
-MovesAfterScan old q replies.Failed new poll = (poll ≡ polls.Fault) × (new ≡ old)
-MovesAfterScan old q _ new poll = ⊥
-
--- what a part that was asked for comes to
-abbrev pub MovesByFetched : Reader → Question → Getting → Fetched → Reader → Poll ReadAnswer → Type 0
-MovesByFetched old q g fetches.More new poll = (poll ≡ polls.More) × (new ≡ record old { getting = g })
-MovesByFetched old q g fetches.Fault new poll = (poll ≡ polls.Fault) × (new ≡ record old { getting = g })
-MovesByFetched old q g (fetches.Missing key) new poll = (poll ≡ polls.More) × (new ≡ record old { getting = g; stage = stages.Check key })
-MovesByFetched old q g (fetches.Damaged damage) new poll = (poll ≡ polls.Damaged damage) × (new ≡ after_poll (record old { getting = g }) poll)
-MovesByFetched old q g fetches.Done new poll = (poll ≡ polls.Done (rows_answer old q g.rows)) × (new ≡ after_poll (record old { getting = g }) poll)
-
-abbrev pub MovesAfterGet : Reader → Question → Reply → Reader → Poll ReadAnswer → Type 0
-MovesAfterGet old q reply new poll = (g : Getting) × (fetched : Fetched) × getting.Moves old.getting reply g fetched × MovesByFetched old q g fetched new poll
-
--- after a part was missing: the member is gone, or the part is told
-abbrev pub missing_poll : Reader → PartKey → Poll ReadAnswer
-missing_poll r key = if is_gone (own_member r) r.trying.loader.cached then expired r else polls.Damaged (damages.Missing key)
-
-abbrev pub ChecksAt : Reader → PartKey → Result (Option ShardState) Damage → Reader → Poll ReadAnswer → Type 0
-ChecksAt old key (Ok (Some s)) new poll = (poll ≡ missing_poll (holding old s) key) × (new ≡ after_poll (holding old s) poll)
-ChecksAt old key (Ok None) new poll = ⊥
-ChecksAt old key (Err damage) new poll = (poll ≡ polls.Damaged damage) × (new ≡ after_poll old poll)
-
-abbrev pub MovesAfterCheck : Reader → PartKey → Reply → Reader → Poll ReadAnswer → Type 0
-MovesAfterCheck old key (replies.Versions vs) new poll = ChecksAt old key (newest_after (shard_of old) old.trying.loader.cached vs) new poll
-MovesAfterCheck old key replies.Failed new poll = (poll ≡ polls.Fault) × (new ≡ old)
-MovesAfterCheck old key _ new poll = ⊥
-
-abbrev pub MovesByStage : Stage → Reader → Question → Reply → Reader → Poll ReadAnswer → Type 0
-MovesByStage stages.Scan old q reply new poll = MovesAfterScan old q reply new poll
-MovesByStage stages.Get old q reply new poll = MovesAfterGet old q reply new poll
-MovesByStage (stages.Check key) old q reply new poll = MovesAfterCheck old key reply new poll
-
--- one more call was made
-abbrev pub counted : Reader → Reader
-counted r = record r { trying = record r.trying { calls = trying.more r.trying.calls } }
+abbrev pub MovesAfterRead : Reader → Reply → Reader → Poll ReadAnswer → Type 0
+MovesAfterRead old reply new poll =
+    (w : Reading Question) × readings.Moves asking old.reading reply w poll × (w.course.loader.shard ≡ shard_of old) ×
+    (new ≡ after_poll (taken_back (reading_on old w) poll) poll)
 
 abbrev pub MovesBy : Option Question → Reader → Reply → Reader → Poll ReadAnswer → Type 0
 MovesBy None old reply new poll = MovesAfterTry old reply new poll
-MovesBy (Some q) old reply new poll = MovesByStage old.stage (counted old) q reply new poll
+MovesBy (Some q) old reply new poll = MovesAfterRead old reply new poll
 
 -- what a reply to its call comes to
 abbrev pub Moves : Reader → Reply → Reader → Poll ReadAnswer → Type 0
@@ -296,7 +218,7 @@ Moves old reply new poll = MovesBy (question old) old reply new poll
 -- what is left of it: the same call is to be made again, a Scan or a Get
 abbrev pub WantsBy : Option Question → Reader → Reader → Type 0
 WantsBy None old new = trying.IsScanning old.trying.next × (new ≡ record old { trying = trying.called old.trying })
-WantsBy (Some q) old new = new ≡ counted old
+WantsBy (Some q) old new = new ≡ reading_on old (record old.reading { course = counted old.reading.course })
 
 abbrev pub Wants : Reader → Reader → Type 0
 Wants old new = WantsBy (question old) old new

@@ -5,7 +5,8 @@ pub mod laws;
 mod machines;
 mod questions;
 mod readers;
-mod stages;
+mod settling;
+mod taking;
 
 pub use history_core::{Asked, ReadAnswer};
 pub use load_core::{BeginFault, Damage, Poll};
@@ -13,5 +14,3 @@ pub use readers::Reader;
 
 #[cfg(test)]
 mod tests;
-#[cfg(test)]
-mod untold_stores;

@@ -2,7 +2,6 @@
 ghost use Rattle.read_client.specs.Machining.{machine};
 
 use crate::readers::Reader;
-use crate::stages::Stage;
 use history_core::ReadAnswer;
 use load_core::Poll;
 use machine_core::Machine;
@@ -15,20 +14,17 @@ impl Machine for Reader {
     ghost words = { machine };
 
     fn prepare(&mut self, alloc: Global) -> Result<(), AllocError> {
-        if self.question().is_none() {
+        if self.reading.asked.is_none() {
             self.trying.prepare(alloc)?;
         }
         Ok(())
     }
 
     fn next_call(&self) -> Result<Call, AllocError> {
-        match self.question() {
-            None => self.trying.next_call(),
-            Some(_) => match self.stage {
-                Stage::Get => Ok(self.getting.next_call()),
-                _ => Ok(self.trying.loader.next()),
-            },
+        if self.reading.asked.is_some() {
+            return self.reading.next_call();
         }
+        self.trying.next_call()
     }
 
     fn react(&mut self, alloc: Global, reply: Reply) -> Result<Poll<ReadAnswer>, AllocError> {

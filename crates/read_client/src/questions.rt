@@ -1,16 +1,17 @@
 // What a snapshot or a step of a listen makes of a state.
-ghost use Rattle.std.specs.Prelude.{◌≡◌, ◌++◌, ◌&&◌, IfOk, OnOk, []};
+ghost use Rattle.std.specs.Prelude.{◌≡◌, ◌++◌, ◌&&◌, IfOk, OnOk, Some, []};
 ghost use Rattle.update_core.specs.Collections.{is_closed, is_past, listen_answer, snapshot_answer};
 ghost use Rattle.state_core.specs.States.{keys_of};
 ghost use Rattle.history_core.specs.Questions.{begun_by, ending_past};
 ghost use Rattle.history_core.specs.Legal.{collection_in};
-ghost use Rattle.read_client.specs.Asking.{asks_of, content_look, look_of, step_look};
+ghost use Rattle.read_client.specs.Asking.{asking, content_look, question_of, step_look};
 
-use history_core::ReadAnswer;
+use history_core::{Asked, ReadAnswer};
+use read_machine::Look;
 use spine_core::{Batch, KeyList};
 use state_core::{Kind, State};
 use std::alloc::{AllocError, Global};
-use update_core::Frontier;
+use update_core::{Frontier, UpdateList, slice_between, sum_at};
 
 /// What is asked of a collection: the content at a time, or a step of a listen from a frontier.
 #[derive(Drop)]
@@ -19,44 +20,65 @@ pub(crate) enum Question {
     Step { from: Frontier },
 }
 
-/// What a state says to a question of a member.
-#[derive(Drop)]
-pub(crate) enum Look {
-    /// The member doesn't stand.
-    Gone,
-    /// The member stands, but not as a reader.
-    Strange,
-    /// The answer, for which no part is read.
-    Answer(ReadAnswer),
-    /// The parts that are to be read.
-    Parts(KeyList),
-}
+impl read_machine::Question for Question {
+    type Answer = ReadAnswer;
 
-impl Question {
-    /// What the state says to the question of this member. It fails only for want of memory.
-    pub(crate) fn look(&self, alloc: Global, state: &State, member: u64) -> Result<Look, AllocError>
-        ensures { IfOk result (λ look. look ≡ look_of self.now state.now member) }
-    {
-        match state.member(member) {
-            None => Ok(Look::Gone),
-            Some(standing) => match standing.kind {
-                Kind::Reader => self.ask(alloc, state),
-                _ => Ok(Look::Strange),
-            },
-        }
+    ghost question = { asking };
+
+    fn takes(&self, kind: Kind) -> bool {
+        kind.is_reader()
     }
 
-    fn ask(&self, alloc: Global, state: &State) -> Result<Look, AllocError>
-        ensures { IfOk result (λ look. look ≡ asks_of self.now state.now) }
-    {
+    fn look(&self, alloc: Global, state: &State) -> Result<Look<ReadAnswer>, AllocError> {
         match self {
             Question::Content { t } => ask_content(alloc, state, *t),
             Question::Step { from } => ask_step(alloc, state, *from),
         }
     }
+
+    fn answer(
+        &self,
+        alloc: Global,
+        state: &State,
+        rows: &UpdateList,
+    ) -> Result<ReadAnswer, AllocError> {
+        match self {
+            Question::Content { t } => {
+                let rows = sum_at(alloc, rows, *t)?;
+                Ok(ReadAnswer::Rows(rows))
+            }
+            Question::Step { from } => {
+                let to = state.upper();
+                let rows = slice_between(alloc, rows, *from, to)?;
+                Ok(ReadAnswer::Step {
+                    from: *from,
+                    to,
+                    rows,
+                })
+            }
+        }
+    }
+
+    fn expired(&self, version: u64) -> ReadAnswer {
+        ReadAnswer::Expired { version }
+    }
 }
 
-fn ask_content(alloc: Global, state: &State, t: u64) -> Result<Look, AllocError>
+/// What a command asks of the collection, where it reads it.
+pub(crate) fn question_of(asked: &Asked, listen: Option<Frontier>) -> Option<Question>
+    ensures { result ≡ question_of (Some asked.now) listen }
+{
+    match asked {
+        Asked::Snapshot { t } => Some(Question::Content { t: *t }),
+        Asked::Listen { .. } | Asked::Next => match listen {
+            Some(from) => Some(Question::Step { from }),
+            None => None,
+        },
+        _ => None,
+    }
+}
+
+fn ask_content(alloc: Global, state: &State, t: u64) -> Result<Look<ReadAnswer>, AllocError>
     ensures { IfOk result (λ look. look ≡ content_look t state.now (snapshot_answer (collection_in [] state.now) t)) }
 {
     if t < state.since() {
@@ -73,7 +95,7 @@ fn ask_content(alloc: Global, state: &State, t: u64) -> Result<Look, AllocError>
     Ok(Look::Parts(keys))
 }
 
-fn ask_step(alloc: Global, state: &State, from: Frontier) -> Result<Look, AllocError>
+fn ask_step(alloc: Global, state: &State, from: Frontier) -> Result<Look<ReadAnswer>, AllocError>
     ensures { IfOk result (λ look. look ≡ step_look from state.now (listen_answer (collection_in [] state.now) from)) }
 {
     let upper = state.upper();

@@ -1,42 +1,36 @@
 // Reader: a client that reads a shard.
-ghost use Rattle.std.specs.Prelude.{◌≡◌, ◌<◌, ◌≤◌, ℕ, [], None, Some, Ok, Option, IfOk, IfSome, IsSome, OnErr, OnOk, if◌then◌else◌, is_some};
+ghost use Rattle.std.specs.Prelude.{◌≡◌, ◌<◌, ◌≤◌, ℕ, None, Some, Ok, Option, IfOk, OnErr, OnOk, is_some};
 ghost use Rattle.std.specs.Option.{option_copied};
 ghost use Rattle.causes.specs.Causes.{Rose};
-ghost use Rattle.load_core.specs.declared.polls.Poll.TheVariants as polls;
 ghost use Rattle.update_core.specs.Frontiers.{after};
-ghost use Rattle.store_core.specs.Histories.{History, IsReplyTo};
-ghost use Rattle.load_core.specs.Getting as getting;
-ghost use Rattle.load_core.specs.Loading.{IsOf, scan_of};
-ghost use Rattle.load_core.specs.Trying as trying;
-ghost use Rattle.read_client.specs.Asking.{look_of};
-ghost use Rattle.read_client.specs.Beginning.{Begins, BeginsRead, Changing, MayAsk, member_fault, next_fault};
-ghost use Rattle.read_client.specs.Following.{FollowsWhere};
+ghost use Rattle.store_core.specs.Histories.{History};
+ghost use Rattle.load_core.specs.declared.polls.Poll.TheVariants as polls;
 ghost use Rattle.load_core.specs.Fronts.{Backwards, WhereLawful};
+ghost use Rattle.load_core.specs.Trying as trying;
 ghost use Rattle.machine_core.specs.Polling as machines;
 ghost use Rattle.machine_core.specs.Polling.{CostGoesOn, LegalWhere, Polled, Unpolled};
+ghost use Rattle.read_client.specs.Beginning.{Begins, BeginsRead, Changing, MayAsk, member_fault, next_fault};
+ghost use Rattle.read_client.specs.Following.{FollowsWhere};
 ghost use Rattle.read_client.specs.Machining.{machine};
 ghost use Rattle.read_client.specs.Polling.{CostAt};
-ghost use Rattle.change_core.specs.Changes.{is_gone};
-ghost use Rattle.read_client.specs.Reading.{IsOpen, IsReading, IsSound, LooksAt, Moves, MovesAfterCheck, MovesAfterGet, MovesAfterScan, MovesAfterTry, MovesByStage, Wants, after_poll, call_of, change_poll, expired, gone_answer, in_answer, listen_after, member_after, missing_poll, newest_number, opened, own_member, parts_poll, parts_staged, question, read_call, rows_answer, shard_of, staged, strange, upper_of, verdict};
-ghost use Rattle.read_client.specs.declared.stages.Stage.TheVariants as stages;
+ghost use Rattle.read_client.specs.Reading.{IsOpen, IsSound, opened, shard_of};
 
-use crate::questions::{Look, Question};
-use crate::stages::Stage;
-use change_core::{Outcome, number_of, outcome_of};
+use crate::questions::{Question, question_of};
+use crate::taking::taken;
 use history_core::{Asked, ReadAnswer};
-use load_core::{BeginFault, Damage, Fetched, Getting, Loader, Poll, Seen, Tried, Trying};
-use spine_core::KeyList;
-use state_core::{Kind, State, Transition};
+use load_core::{BeginFault, Loader, Poll, Trying};
+use read_machine::Reading;
+use state_core::{Kind, Transition};
 use std::alloc::{AllocError, Global};
-use store_core::{PartKey, Port, Reply, ShardId};
-use update_core::{Frontier, RowList, UpdateList, slice_between, sum_at};
+use store_core::{Port, ShardId};
+use update_core::Frontier;
 
 /// A reader of one shard. It joins as a member with a lease when it is opened, and what it reads is kept for it while the lease
 /// lasts; it leaves when it is closed. A command is begun and then polled until it ends; each poll makes at most one call of the
 /// store. See docs/DEFINITIONS.md, "Writers and readers".
 #[derive(Drop)]
 pub struct Reader {
-    /// The transition of the open or the last change, the newest state that was seen, and the count of calls.
+    /// The transition of the open or the last change, the newest state that was seen while nothing is read, and the count of calls.
     pub(crate) trying: Trying,
     /// The member that it joined as, until it has left or was found to be gone.
     pub(crate) member: Option<u64>,
@@ -44,10 +38,8 @@ pub struct Reader {
     pub(crate) asked: Option<Asked>,
     /// The frontier of the listen that stands.
     pub(crate) listen: Option<Frontier>,
-    /// Where the open snapshot or listen stands.
-    pub(crate) stage: Stage,
-    /// The parts of the open or the last snapshot or listen.
-    pub(crate) getting: Getting,
+    /// The open or the last snapshot or listen, which has the newest state while it is open.
+    pub(crate) reading: Reading<Question>,
 }
 
 impl Reader {
@@ -70,8 +62,7 @@ impl Reader {
             member: None,
             asked: Some(Asked::OpenReader { shard, now, lease }),
             listen: None,
-            stage: Stage::Scan,
-            getting: Getting::of(alloc, KeyList::new(alloc)),
+            reading: Reading::new(alloc, shard),
         }
     }
 
@@ -125,12 +116,15 @@ impl Reader {
         self.asked = Some(asked);
     }
 
-    // A command that reads begins.
-    fn begin_read(&mut self, asked: Asked)
-        ensures { self.new ≡ record self.old { asked = Some asked; stage = stages.Scan; trying = record self.old.trying { calls = 0 } } }
+    // A command that reads begins, from the newest state that was seen.
+    fn begin_read(&mut self, member: u64, asked: Asked)
+        requires { self.old.member ≡ Some member }
+        ensures { BeginsRead self.old asked self.old.listen self.new }
     {
+        let question = question_of(&asked, self.listen);
+        let loader = taken(&mut self.trying.loader);
         self.trying.calls = 0;
-        self.stage = Stage::Scan;
+        self.reading.begin(loader, member, question);
         self.asked = Some(asked);
     }
 
@@ -144,8 +138,8 @@ impl Reader {
         ensures follows { (client : ℕ) (front : Option History) → FollowsWhere client front self.old → FollowsWhere client front self.new }
         ensures cost { OnOk result ((base client : ℕ) (front : Option History) → 3 ≤ base → WhereLawful (shard_of self.new) front (Backwards (CostAt base client self.new))) }
     {
-        let _member = self.member_to_ask()?;
-        self.begin_read(Asked::Snapshot { t });
+        let member = self.member_to_ask()?;
+        self.begin_read(member, Asked::Snapshot { t });
         Ok(())
     }
 
@@ -158,9 +152,9 @@ impl Reader {
         ensures follows { (client : ℕ) (front : Option History) → FollowsWhere client front self.old → FollowsWhere client front self.new }
         ensures cost { OnOk result ((base client : ℕ) (front : Option History) → 3 ≤ base → WhereLawful (shard_of self.new) front (Backwards (CostAt base client self.new))) }
     {
-        let _member = self.member_to_ask()?;
+        let member = self.member_to_ask()?;
         self.listen = Some(Frontier::after(as_of));
-        self.begin_read(Asked::Listen { as_of });
+        self.begin_read(member, Asked::Listen { as_of });
         Ok(())
     }
 
@@ -172,11 +166,11 @@ impl Reader {
         ensures follows { (client : ℕ) (front : Option History) → FollowsWhere client front self.old → FollowsWhere client front self.new }
         ensures cost { OnOk result ((base client : ℕ) (front : Option History) → 3 ≤ base → WhereLawful (shard_of self.new) front (Backwards (CostAt base client self.new))) }
     {
-        let _member = self.member_to_ask()?;
+        let member = self.member_to_ask()?;
         if self.listen.is_none() {
             return Err(BeginFault::NoListen);
         }
-        self.begin_read(Asked::Next);
+        self.begin_read(member, Asked::Next);
         Ok(())
     }
 
@@ -222,20 +216,6 @@ impl Reader {
         Ok(())
     }
 
-    // What is asked of the collection, where the open command reads it.
-    pub(crate) fn question(&self) -> Option<Question>
-        ensures { result ≡ question self.now }
-    {
-        match &self.asked {
-            Some(Asked::Snapshot { t }) => Some(Question::Content { t: *t }),
-            Some(Asked::Listen { .. }) | Some(Asked::Next) => match self.listen {
-                Some(from) => Some(Question::Step { from }),
-                None => None,
-            },
-            _ => None,
-        }
-    }
-
     /// Goes on with the open command by one call of the store, through this port, unless the port finds the store taken.
     /// See docs/DEFINITIONS.md, "Polls". It fails only for want of memory: the command stays open, nothing was changed in the
     /// store, and the next poll makes the same call again.
@@ -265,424 +245,5 @@ impl Reader {
         ensures kept { P.kept port.new ≡ P.kept port.old }
     {
         machine_core::poll(self, alloc, port)
-    }
-
-    // What the reply comes to, before the reader has settled by it.
-    pub(crate) fn reaction(
-        &mut self,
-        alloc: Global,
-        reply: Reply,
-    ) -> Result<Poll<ReadAnswer>, AllocError>
-        requires open { IsOpen self.old }
-        requires sound { IsSound self.old }
-        requires row { IfSome (call_of self.old) (λ call. IsReplyTo call reply) }
-        ensures moves { IfOk result (λ poll. Moves self.old reply (after_poll self.new poll) poll) }
-        ensures trying { trying.IsSound self.new.trying }
-        ensures getting { getting.IsSound self.new.getting }
-        ensures memory { OnErr result (Wants self.old self.new) }
-    {
-        match self.question() {
-            None => self.after_try(alloc, reply),
-            Some(question) => {
-                self.trying.calls = self.trying.calls.saturating_add(1);
-                self.after_read(alloc, &question, reply)
-            }
-        }
-    }
-
-    // What the reply to a call of a transition comes to.
-    fn after_try(&mut self, alloc: Global, reply: Reply) -> Result<Poll<ReadAnswer>, AllocError>
-        requires open { IsOpen self.old }
-        requires sound { trying.IsSound self.old.trying }
-        requires row { IsReplyTo (trying.call_of self.old.trying) reply }
-        ensures moves { IfOk result (λ poll. MovesAfterTry self.old reply (after_poll self.new poll) poll) }
-        ensures sound { trying.IsSound self.new.trying }
-        ensures getting { self.new.getting ≡ self.old.getting }
-        ensures memory { OnErr result (trying.IsScanning self.old.trying.next × (self.new ≡ record self.old { trying = trying.called self.old.trying })) }
-    {
-        match self.trying.react(alloc, reply) {
-            Ok(tried) => Ok(self.verdict(tried)),
-            Err(fault) => Err(fault),
-        }
-    }
-
-    // What becomes of the reader after a poll.
-    pub(crate) fn settle(&mut self, poll: &Poll<ReadAnswer>)
-        ensures { self.new ≡ after_poll self.old poll.now }
-    {
-        match poll {
-            Poll::Busy | Poll::More | Poll::Fault => {}
-            Poll::Damaged(_) | Poll::Spent => self.asked = None,
-            Poll::Done(answer) => {
-                self.listen = listen_after(&self.asked, self.listen, answer);
-                self.member = member_after(self.member, answer);
-                self.asked = None;
-            }
-        }
-    }
-
-    // ---- reading
-
-    fn after_read(
-        &mut self,
-        alloc: Global,
-        question: &Question,
-        reply: Reply,
-    ) -> Result<Poll<ReadAnswer>, AllocError>
-        requires known { IsSome self.old.trying.loader.cached }
-        requires idle { trying.IsScanning self.old.trying.next }
-        requires getting { getting.IsSound self.old.getting }
-        requires reading { IsReading self.old self.old.stage question.now }
-        requires row { IfSome (read_call self.old self.old.stage) (λ call. IsReplyTo call reply) }
-        ensures moves { IfOk result (λ poll. MovesByStage self.old.stage self.old question.now reply (after_poll self.new poll) poll) }
-        ensures sound { getting.IsSound self.new.getting }
-        ensures next { self.new.trying.next ≡ self.old.trying.next }
-        ensures memory { OnErr result (self.new ≡ self.old) }
-    {
-        match self.stage {
-            Stage::Scan => self.after_scan(alloc, question, reply),
-            Stage::Get => self.after_get(alloc, question, reply),
-            Stage::Check { key } => self.after_check(alloc, key, reply),
-        }
-    }
-
-    fn after_scan(
-        &mut self,
-        alloc: Global,
-        question: &Question,
-        reply: Reply,
-    ) -> Result<Poll<ReadAnswer>, AllocError>
-        requires known { IsSome self.old.trying.loader.cached }
-        requires row { IsReplyTo (scan_of self.old.trying.loader) reply }
-        ensures moves { IfOk result (λ poll. MovesAfterScan self.old question.now reply (after_poll self.new poll) poll) }
-        ensures memory { OnErr result (self.new ≡ self.old) }
-        ensures getting { getting.IsSound self.old.getting → getting.IsSound self.new.getting }
-        ensures next { self.new.trying.next ≡ self.old.trying.next }
-    {
-        match self.trying.loader.look(alloc, reply)? {
-            Seen::Fault => Ok(Poll::Fault),
-            Seen::Damaged(damage) => Ok(Poll::Damaged(damage)),
-            Seen::Newer(state) => self.after_state(alloc, question, state),
-            Seen::Nothing => self.after_nothing(alloc, question),
-        }
-    }
-
-    // A newer state came.
-    fn after_state(
-        &mut self,
-        alloc: Global,
-        question: &Question,
-        state: State,
-    ) -> Result<Poll<ReadAnswer>, AllocError>
-        requires { IsOf self.old.trying.loader.shard state }
-        ensures moves { IfOk result (λ poll. LooksAt self.old question.now (Ok (Some state)) (after_poll self.new poll) poll) }
-        ensures memory { OnErr result (self.new ≡ self.old) }
-        ensures getting { getting.IsSound self.old.getting → getting.IsSound self.new.getting }
-        ensures next { self.new.trying.next ≡ self.old.trying.next }
-    {
-        match question.look(alloc, &state, self.own_member())? {
-            Look::Gone => {
-                self.trying.loader.keep(state);
-                Ok(self.expired())
-            }
-            Look::Strange => {
-                self.trying.loader.keep(state);
-                Ok(self.strange())
-            }
-            Look::Answer(answer) => {
-                self.trying.loader.keep(state);
-                Ok(Poll::Done(answer))
-            }
-            Look::Parts(keys) => {
-                self.trying.loader.keep(state);
-                Ok(self.go_to(alloc, question, keys))
-            }
-        }
-    }
-
-    // No newer state came.
-    fn after_nothing(
-        &mut self,
-        alloc: Global,
-        question: &Question,
-    ) -> Result<Poll<ReadAnswer>, AllocError>
-        requires { IsSome self.old.trying.loader.cached }
-        ensures moves { IfOk result (λ poll. LooksAt self.old question.now (Ok self.old.trying.loader.cached) (after_poll self.new poll) poll) }
-        ensures memory { OnErr result (self.new ≡ self.old) }
-        ensures getting { getting.IsSound self.old.getting → getting.IsSound self.new.getting }
-        ensures next { self.new.trying.next ≡ self.old.trying.next }
-    {
-        match self.look_again(alloc, question)? {
-            Look::Gone => Ok(self.expired()),
-            Look::Strange => Ok(self.strange()),
-            Look::Answer(answer) => Ok(Poll::Done(answer)),
-            Look::Parts(keys) => Ok(self.go_to(alloc, question, keys)),
-        }
-    }
-
-    // What the newest state says, where nothing newer came.
-    fn look_again(&self, alloc: Global, question: &Question) -> Result<Look, AllocError>
-        ensures { IfOk result (λ look. IfSome self.now.trying.loader.cached (λ s. look ≡ look_of question.now s (own_member self.now))) }
-    {
-        match self.trying.loader.state() {
-            Some(state) => question.look(alloc, state, self.own_member()),
-            None => Ok(Look::Gone),
-        }
-    }
-
-    // The parts that are to be read, where there are any.
-    fn go_to(&mut self, alloc: Global, question: &Question, keys: KeyList) -> Poll<ReadAnswer>
-        ensures poll { result ≡ parts_poll self.old question.now keys }
-        ensures staged { self.new ≡ parts_staged self.old keys }
-        ensures getting { getting.IsSound self.old.getting → getting.IsSound self.new.getting }
-    {
-        if keys.as_slice().is_empty() {
-            return Poll::Done(self.empty_answer(alloc, question));
-        }
-        self.getting = Getting::of(alloc, keys);
-        self.stage = Stage::Get;
-        Poll::More
-    }
-
-    // The answer from no rows at all.
-    fn empty_answer(&self, alloc: Global, question: &Question) -> ReadAnswer
-        ensures { result ≡ rows_answer self.now question.now [] }
-    {
-        match question {
-            Question::Content { .. } => ReadAnswer::Rows(RowList::new(alloc)),
-            Question::Step { from } => ReadAnswer::Step {
-                from: *from,
-                to: self.newest_upper(),
-                rows: UpdateList::new(alloc),
-            },
-        }
-    }
-
-    fn after_get(
-        &mut self,
-        alloc: Global,
-        question: &Question,
-        reply: Reply,
-    ) -> Result<Poll<ReadAnswer>, AllocError>
-        requires row { IfSome (getting.call_of self.old.getting) (λ call. IsReplyTo call reply) }
-        requires sound { getting.IsSound self.old.getting }
-        requires open { getting.IsOpen self.old.getting }
-        ensures moves { IfOk result (λ poll. MovesAfterGet self.old question.now reply (after_poll self.new poll) poll) }
-        ensures memory { OnErr result (self.new ≡ self.old) }
-        ensures sound { getting.IsSound self.new.getting }
-        ensures next { self.new.trying.next ≡ self.old.trying.next }
-    {
-        let count = self.getting.rows.as_slice().len();
-        let weight = self.getting.weight;
-        match self.getting.react(alloc, reply)? {
-            Fetched::More => Ok(Poll::More),
-            Fetched::Fault => Ok(Poll::Fault),
-            Fetched::Missing { key } => {
-                self.stage = Stage::Check { key };
-                Ok(Poll::More)
-            }
-            Fetched::Damaged(damage) => Ok(Poll::Damaged(damage)),
-            Fetched::Done => match self.rows_answer(alloc, question) {
-                Ok(answer) => Ok(Poll::Done(answer)),
-                Err(fault) => {
-                    self.getting.go_back(alloc, count, weight);
-                    Err(fault)
-                }
-            },
-        }
-    }
-
-    // The answer from the rows that were got.
-    fn rows_answer(&self, alloc: Global, question: &Question) -> Result<ReadAnswer, AllocError>
-        requires { getting.IsSound self.now.getting }
-        ensures { IfOk result (λ answer. answer ≡ rows_answer self.now question.now self.now.getting.rows) }
-    {
-        match question {
-            Question::Content { t } => {
-                let rows = sum_at(alloc, &self.getting.rows, *t)?;
-                Ok(ReadAnswer::Rows(rows))
-            }
-            Question::Step { from } => {
-                let to = self.newest_upper();
-                let rows = slice_between(alloc, &self.getting.rows, *from, to)?;
-                Ok(ReadAnswer::Step {
-                    from: *from,
-                    to,
-                    rows,
-                })
-            }
-        }
-    }
-
-    // A part was missing: the member is gone, or the shard is damaged.
-    fn after_check(
-        &mut self,
-        alloc: Global,
-        key: PartKey,
-        reply: Reply,
-    ) -> Result<Poll<ReadAnswer>, AllocError>
-        requires known { IsSome self.old.trying.loader.cached }
-        requires row { IsReplyTo (scan_of self.old.trying.loader) reply }
-        ensures moves { IfOk result (λ poll. MovesAfterCheck self.old key reply (after_poll self.new poll) poll) }
-        ensures memory { OnErr result (self.new ≡ self.old) }
-        ensures getting { getting.IsSound self.old.getting → getting.IsSound self.new.getting }
-        ensures next { self.new.trying.next ≡ self.old.trying.next }
-    {
-        match self.trying.loader.look(alloc, reply)? {
-            Seen::Fault => Ok(Poll::Fault),
-            Seen::Damaged(damage) => Ok(Poll::Damaged(damage)),
-            Seen::Newer(state) => {
-                self.trying.loader.keep(state);
-                Ok(self.gone_or_missing(key))
-            }
-            Seen::Nothing => Ok(self.gone_or_missing(key)),
-        }
-    }
-
-    fn gone_or_missing(&self, key: PartKey) -> Poll<ReadAnswer>
-        ensures { result ≡ missing_poll self.now key }
-    {
-        if self.is_gone() {
-            return self.expired();
-        }
-        Poll::Damaged(Damage::Missing { key })
-    }
-
-    // ---- the newest state
-
-    // The number of the own member, which there is while a command but the open is open.
-    fn own_member(&self) -> u64
-        ensures { result ≡ own_member self.now }
-    {
-        self.member.unwrap_or(0)
-    }
-
-    // Whether the member doesn't stand in the newest state.
-    fn is_gone(&self) -> bool
-        ensures { result ≡ is_gone (own_member self.now) self.now.trying.loader.cached }
-    {
-        match self.trying.loader.state() {
-            Some(state) => state.member(self.own_member()).is_none(),
-            None => true,
-        }
-    }
-
-    fn newest_number(&self) -> u64
-        ensures { result ≡ newest_number self.now }
-    {
-        number_of(self.trying.loader.state())
-    }
-
-    fn newest_upper(&self) -> Frontier
-        ensures { result ≡ upper_of self.now.trying.loader.cached }
-    {
-        match self.trying.loader.state() {
-            Some(state) => state.upper(),
-            None => Frontier::at(0),
-        }
-    }
-
-    // The member doesn't stand any more.
-    fn expired(&self) -> Poll<ReadAnswer>
-        ensures { result ≡ expired self.now }
-    {
-        Poll::Done(ReadAnswer::Expired {
-            version: self.newest_number(),
-        })
-    }
-
-    // The member is shown otherwise than it was left.
-    fn strange(&self) -> Poll<ReadAnswer>
-        ensures { result ≡ strange self.now }
-    {
-        Poll::Damaged(Damage::Member {
-            member: self.own_member(),
-            version: self.newest_number(),
-        })
-    }
-
-    // ---- changing
-
-    fn verdict(&self, tried: Tried) -> Poll<ReadAnswer>
-        ensures { IfSome self.now.asked (λ asked. result ≡ verdict self.now asked tried) }
-    {
-        self.change_poll(outcome_of(&self.trying, self.own_member(), tried))
-    }
-
-    // What an open, a close, a renewal or an advance is answered.
-    fn change_poll(&self, outcome: Outcome) -> Poll<ReadAnswer>
-        ensures { IfSome self.now.asked (λ asked. result ≡ change_poll self.now asked outcome) }
-    {
-        match outcome {
-            Outcome::Going => Poll::More,
-            Outcome::Fault => Poll::Fault,
-            Outcome::Spent => Poll::Spent,
-            Outcome::Damaged(damage) => Poll::Damaged(damage),
-            Outcome::Joined {
-                member,
-                version,
-                since,
-            } => {
-                Poll::Done(ReadAnswer::Opened {
-                    member,
-                    version,
-                    since,
-                })
-            }
-            Outcome::Full { version } => Poll::Done(ReadAnswer::MembersFull { version }),
-            Outcome::Committed { version } => Poll::Done(self.in_answer(version)),
-            Outcome::Gone { version } => Poll::Done(self.gone_answer(version)),
-            Outcome::Back { since } => Poll::Done(ReadAnswer::Back { since }),
-            Outcome::Strange { .. } => self.strange(),
-        }
-    }
-
-    fn in_answer(&self, version: u64) -> ReadAnswer
-        ensures { IfSome self.now.asked (λ asked. result ≡ in_answer asked version) }
-    {
-        match &self.asked {
-            Some(Asked::Advance { .. }) => ReadAnswer::Advanced { version },
-            Some(Asked::RenewReader { .. }) => ReadAnswer::Renewed { version },
-            _ => ReadAnswer::Closed { version },
-        }
-    }
-
-    fn gone_answer(&self, version: u64) -> ReadAnswer
-        ensures { IfSome self.now.asked (λ asked. result ≡ gone_answer asked version) }
-    {
-        match &self.asked {
-            Some(Asked::Advance { .. }) | Some(Asked::RenewReader { .. }) => {
-                ReadAnswer::Expired { version }
-            }
-            _ => ReadAnswer::Closed { version },
-        }
-    }
-}
-
-fn member_after(member: Option<u64>, answer: &ReadAnswer) -> Option<u64>
-    ensures { result ≡ member_after member answer.now }
-{
-    match answer {
-        ReadAnswer::Opened { member, .. } => Some(*member),
-        ReadAnswer::Closed { .. } | ReadAnswer::Expired { .. } => None,
-        _ => member,
-    }
-}
-
-// A step moves the listen to its end. A listen that is told Early stands no longer; a snapshot leaves it as it is.
-fn listen_after(
-    asked: &Option<Asked>,
-    listen: Option<Frontier>,
-    answer: &ReadAnswer,
-) -> Option<Frontier>
-    ensures { result ≡ listen_after asked.now listen answer.now }
-{
-    match answer {
-        ReadAnswer::Step { to, .. } => Some(*to),
-        ReadAnswer::Early { .. } => match asked {
-            Some(Asked::Snapshot { .. }) => listen,
-            _ => None,
-        },
-        _ => listen,
     }
 }

@@ -72,6 +72,12 @@ leaves_so P Q h k so safe = record {
     all [] each = tt
     all (s ∷ later) each = (λ c left. so c (each.0 c left), all later each.1)
 
+-- the same where the disk is told
+pub leaves_where_told : (P Q : List ℕ → Type 0) (old new : Option DiskHistory) → ((c : List ℕ) → P c → Q c) → LeavesWhereTold P old new
+    → LeavesWhereTold Q old new
+leaves_where_told P Q None new so none = none
+leaves_where_told P Q (Some h) new so (k, at, leaves) = (k, at, leaves_so P Q h k so leaves)
+
 module _ (s : Stored) (c : Call) (p : List ℕ) (end : ℕ) (spelled : call_in p ≡ Some c) (change : changes s c ≡ true) where
   -- the store with the change, or without
   pub added_safely : (old new : Option DiskHistory) → KeepsWhereTold s end old → AddsSafely p old new

@@ -30,6 +30,10 @@ module _ {D : Type 0} {G : Ghosts D} where
   abbrev pub disk_of : FileStore D G → Option DiskHistory
   disk_of s = G.history s.journal.disk
 
+  -- its disk as it was when the store was opened
+  abbrev pub opened_disk : FileStore D G → Option DiskHistory
+  opened_disk s = G.history s.opened.value
+
   -- how often the disk has failed
   abbrev pub disk_faults : FileStore D G → ℕ
   disk_faults s = G.faults s.journal.disk

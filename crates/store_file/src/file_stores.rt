@@ -1,9 +1,11 @@
 // A store in a file.
-ghost use Rattle.std.specs.Prelude.{◌≡◌, ◌+◌, ◌<◌, ◌^◌, true, false, length, [], ◌∷◌, ◌++◌, vec_len, vec_capacity};
+ghost use Rattle.std.specs.Prelude.{◌≡◌, ◌+◌, ◌<◌, ◌^◌, true, false, not, length, [], ◌∷◌, ◌++◌, vec_len, vec_capacity};
 ghost use Rattle.std.specs.Option.{ForSome};
 ghost use Rattle.store_core.specs.Histories.{replay};
 ghost use Rattle.store_core.specs.Contents.{stored_of};
+ghost use Rattle.std.proofs.Props.{props};
 ghost use Rattle.store_file.specs.Replays.{Keeps};
+ghost use Rattle.store_file.specs.SinceOpening.{AreSpelled, MadeStart, RecordedWhereTold, SafeWhereTold, ToldAsMuch, all_done};
 
 use crate::found::Found;
 use crate::open_fails::OpenFail;
@@ -17,11 +19,13 @@ use std::alloc::{AllocError, Global};
 use std::snapshot::Snapshot;
 use store_core::{Call, Contents, Entry, Outcome, Reply, Store};
 
-/// A store whose changes stand in a journal on a disk, with what it has been asked. What it began with is known to proofs alone.
+/// A store whose changes stand in a journal on a disk, with what it has been asked. What it began with, and how the disk was then, is
+/// known to proofs alone. Whatever a crash left at any moment since then has the records of the first changes of the trail.
 #[derive(Drop)]
 pub struct FileStore<D: Disk> {
     alloc: Global,
     journal: Journal<D>,
+    opened: Snapshot<D>,
     start: Snapshot<Contents>,
     current: Contents,
     trail: Vec<Entry>,
@@ -29,6 +33,13 @@ pub struct FileStore<D: Disk> {
     refused: u64,
     ghost replayed: { shut ≡ false → stored_of current ≡ replay (stored_of start.value) trail.items },
     ghost kept: { ForSome (D.history journal.disk) (λ h. shut ≡ false → Keeps (stored_of current) journal.end h) },
+    ghost done: { all_done trail.items ≡ not shut },
+    ghost spelled: { AreSpelled (stored_of start.value) trail.items },
+    ghost told: { ToldAsMuch (D.history opened.value) (D.history journal.disk) },
+    ghost made: { MadeStart (D.history opened.value) (stored_of start.value) },
+    ghost recorded: { shut ≡ false → RecordedWhereTold (D.history opened.value) (stored_of start.value) trail.items
+        (D.history journal.disk) },
+    ghost safe: { SafeWhereTold (D.history opened.value) (stored_of start.value) trail.items (D.history journal.disk) } by { Prim.hlevel props },
 }
 
 fn has_room(end: u64, change: &Record) -> bool
@@ -60,21 +71,25 @@ impl<D: Disk> FileStore<D> {
     ghost use Rattle.store_file.specs.Replays.{Stands, StandsForEither, KeepsWhereTold};
     ghost use Rattle.store_file.specs.Causes.{IsCauseOf, IsFromOutside};
     ghost use Rattle.store_file.specs.FileStores.{history_of, told, HasEntry, store_now, disk_of, disk_faults, file_faults, is_shut};
-    ghost use Rattle.store_file.specs.FileStores.{end_of};
+    ghost use Rattle.store_file.specs.FileStores.{end_of, opened_disk};
+    ghost use Rattle.store_file.specs.SinceOpening.{StandsForFirst};
 
     // The store that begins with what its disk keeps. It takes no memory.
     fn starting(alloc: Global, disk: D, contents: Contents, end: u64) -> FileStore<D>
         requires { KeepsWhereTold (stored_of contents) end (D.history disk) }
         ensures start { (history_of result).start ≡ stored_of contents }
+        ensures opened { opened_disk result ≡ disk_of result }
         ensures trail { (history_of result).trail ≡ [] }
         ensures open { is_shut result ≡ false }
         ensures disk { disk_of result ≡ D.history disk }
         ensures faults { disk_faults result ≡ D.faults disk }
     {
         let start = Snapshot::of(&contents);
+        let opened = Snapshot::of(&disk);
         FileStore {
             alloc,
             journal: Journal { disk, end },
+            opened,
             start,
             current: contents,
             trail: Vec::new(alloc),
@@ -87,6 +102,7 @@ impl<D: Disk> FileStore<D> {
     pub fn create(alloc: Global, disk: D) -> Result<FileStore<D>, OpenFail<D>>
         requires { IsEmpty (D.history disk) }
         ensures history { IfOk result (λ store. history_of store ≡ record { start = empty_store; trail = [] }) }
+        ensures opened { IfOk result (λ store. opened_disk store ≡ disk_of store) }
         ensures open { IfOk result (λ store. is_shut store ≡ false) }
         ensures fault { IfErr result (λ fail. (fail.why ≡ OpenFault.DiskFault) × Rose (D.faults disk) (D.faults fail.disk)) }
         ensures later { IfOk result (λ store. D.faults disk ≤ disk_faults store) }
@@ -106,6 +122,7 @@ impl<D: Disk> FileStore<D> {
     pub fn open(alloc: Global, disk: D) -> Result<FileStore<D>, OpenFail<D>>
         // It begins with the store that the bytes stand for.
         ensures start { IfOk result (λ store. ForSome (D.history disk) (λ h. Stands (history_of store).start h.now.bytes)) }
+        ensures opened { IfOk result (λ store. opened_disk store ≡ disk_of store) }
         ensures trail { IfOk result (λ store. (history_of store).trail ≡ []) }
         ensures open { IfOk result (λ store. is_shut store ≡ false) }
         ensures later { IfOk result (λ store. D.faults disk ≤ disk_faults store) }
@@ -128,13 +145,16 @@ impl<D: Disk> FileStore<D> {
         self.shut
     }
 
-    /// The disk. While the store isn't shut, its bytes, and those that a crash leaves of it, stand for the store as it is.
+    /// The disk as it is. While the store isn't shut, its bytes, and those that a crash leaves of it, stand for the store as it is.
     pub fn into_disk(self) -> D
         ensures history { D.history result ≡ disk_of self }
         ensures faults { D.faults result ≡ disk_faults self }
         ensures kept { is_shut self ≡ false → ForSome (D.history result) (λ h. Keeps (store_now self) (end_of self) h) }
         ensures stands { is_shut self ≡ false → ForSome (D.history result) (λ h. Stands (store_now self) h.now.bytes) }
         ensures crash { is_shut self ≡ false → ForSome (D.history result) (λ h. LeavesNow (Stands (store_now self)) h.now) }
+        // Whatever a crash left at any moment since the store was opened, within a call too, stands for the store after its first calls,
+        // with or without the one that was in progress.
+        ensures any_moment { LeavesWhereTold (StandsForFirst (history_of self)) (opened_disk self) (D.history result) }
     {
         let FileStore {
             journal: Journal { disk, .. },
@@ -147,6 +167,7 @@ impl<D: Disk> FileStore<D> {
     fn refuse(&mut self, client: u64, call: &Call) -> Result<Reply, AllocError>
         requires { is_shut self.old ≡ true }
         ensures failed { IfOk result (λ reply. reply ≡ Reply.Failed) }
+        ensures opened { opened_disk self.new ≡ opened_disk self.old }
         ensures entry { OnOk result (HasEntry client call.now Outcome.FailedLost (history_of self.old) (history_of self.new)) }
         ensures rose { OnOk result (Rose (file_faults self.old) (file_faults self.new)) }
         ensures memory { OnErr result (history_of self.new ≡ history_of self.old) }
@@ -171,6 +192,7 @@ impl<D: Disk> FileStore<D> {
         requires open { is_shut self.old ≡ false }
         requires same { changes (store_now self.old) call.now ≡ false }
         ensures reply { IfOk result (λ reply. reply ≡ reply_of (store_now self.old) call.now) }
+        ensures opened { opened_disk self.new ≡ opened_disk self.old }
         ensures entry { OnOk result (HasEntry client call.now Outcome.Took (history_of self.old) (history_of self.new)) }
         ensures memory { OnErr result (history_of self.new ≡ history_of self.old) }
         ensures faults { file_faults self.new ≡ file_faults self.old }
@@ -214,6 +236,7 @@ impl<D: Disk> FileStore<D> {
         ensures refused { OnErr result (is_shut self.new ≡ false) }
         ensures later { disk_faults self.old ≤ disk_faults self.new }
         ensures others { self.new.refused ≡ self.old.refused }
+        ensures opened { opened_disk self.new ≡ opened_disk self.old }
     {
         let copy = call.copy()?;
         let change = record_of(self.alloc, call)?;
@@ -259,7 +282,7 @@ impl<D: Disk> Store for FileStore<D> {
     ghost use Rattle.journal_core.specs.Records.{HasAdded, AddsSafely};
     ghost use Rattle.store_file.specs.Payloads.{payload_of};
     ghost use Rattle.store_file.specs.FileStores.{history_of, told, HasEntry, store_now, disk_of, disk_faults, file_faults, is_shut};
-    ghost use Rattle.store_file.specs.FileStores.{end_of};
+    ghost use Rattle.store_file.specs.FileStores.{end_of, opened_disk};
 
     ghost history = { told };
 
@@ -269,6 +292,7 @@ impl<D: Disk> Store for FileStore<D> {
     fn call(&mut self, client: u64, call: &Call) -> Result<Reply, AllocError>
         ensures entry { IfOk result (λ reply. Adds (told self.old) (told self.new) client call.now reply) }
         ensures memory { OnErr result (told self.new ≡ told self.old) }
+        ensures opened { opened_disk self.new ≡ opened_disk self.old }
         ensures shape { IfOk result (λ reply. IsReplyTo call.now reply) }
         ensures cause { IfOk result (λ reply. reply ≡ Reply.Failed → Rose (file_faults self.old) (file_faults self.new)) }
         ensures later { file_faults self.old ≤ file_faults self.new }

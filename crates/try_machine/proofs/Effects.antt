@@ -25,10 +25,11 @@ use Rattle.load_core.proofs.Effects.{tried_effect}
 use Rattle.load_core.proofs.Following as following
 use Rattle.load_core.proofs.Replied.{stop_shown}
 use Rattle.machine_core.specs.Machines.{Asking}
+use Rattle.load_core.proofs.TryFacts.{tried_carries}
 use Rattle.try_machine.specs.declared.tryers.Tryer.{Tryer}
 use Rattle.try_machine.specs.Rules.{IsEnd, IsRule, Rules}
 use Rattle.try_machine.specs.Tryers.{Did, DidBy, IsReady, Moves, SoundBy, kept, verdict, words}
-use Rattle.try_machine.proofs.Tries.{shown_versions, tried_carries}
+use Rattle.try_machine.proofs.Tries.{shown_versions}
 use Rattle.try_machine.proofs.Ways.{Way, emptied, tried, way}
 
 module _ {R A : Type 0} (Q : Rules R A) where

@@ -16,10 +16,10 @@ use Rattle.load_core.specs.Following.{FollowsTrying}
 use Rattle.load_core.proofs.Following as following
 use Rattle.load_core.proofs.Remaining.{prepared_cost}
 use Rattle.machine_core.specs.Machines.{reply_there}
+use Rattle.load_core.proofs.TryFacts.{prepares_is}
 use Rattle.try_machine.specs.declared.tryers.Tryer.{Tryer}
 use Rattle.try_machine.specs.Rules.{IsRule, Rules}
 use Rattle.try_machine.specs.Tryers.{Follows, Prepares, kept, looked_asked}
-use Rattle.try_machine.proofs.Readying.{prepares_is}
 
 module _ {R A : Type 0} (Q : Rules R A) (L : IsRule Q) where
   fixed_looked : (o : Option R) (newest : Option ShardState) → option_map Q.fixed (looked_asked Q o newest) ≡ option_map Q.fixed o

@@ -20,47 +20,11 @@ use Rattle.load_core.specs.Trying as trying
 use Rattle.load_core.proofs.Causes.{newest_none}
 use Rattle.load_core.proofs.Outcomes.{HowMoved, scanned, failed, cased, how_moved}
 use Rattle.load_core.proofs.Runs.{moves_same}
+use Rattle.load_core.proofs.TryFacts.{prepared_next, prepares_is}
 use Rattle.try_machine.specs.declared.tryers.Tryer.{Tryer}
 use Rattle.try_machine.specs.Rules.{AsksSame, Rules}
 use Rattle.try_machine.specs.Tryers.{AskSame, HasLooked, IsReady, IsSound, SoundBy, asked_after, empty_answer, empty_by, empty_of}
 use Rattle.try_machine.specs.Tryers.{looked_asked}
-
--- what preparing changes is what comes next
-pub prepares_is : (t new : Trying) → trying.Prepares t new → new ≡ trying.going t new.next
-prepares_is t new prepares = go t.next refl prepares
-  where
-    by : (next : Next) → new ≡ trying.going t next → new ≡ trying.going t new.next
-    by next e = e ∙ ap (λ (n : Next). trying.going t n) (sym (ap (λ (z : Trying). z.next) e))
-
-    on : (c : Option ShardState) → trying.PreparesOn c t new → new ≡ trying.going t new.next
-    on None e = by nexts.Scan e
-    on (Some s) (a, attempts, e) = by (trying.next_by a) e
-
-    go : (next : Next) → t.next ≡ next → trying.PreparesBy next t new → new ≡ trying.going t new.next
-    go nexts.Attempt e h = on t.loader.cached h
-    go nexts.Scan e h = by t.next h
-    go (nexts.Cas r) e h = by t.next h
-
--- once it is prepared no attempt comes before the call
-pub prepared_next : (t new : Trying) → trying.Prepares t new → IsPrepared new.next
-prepared_next t new prepares = go t.next refl prepares
-  where
-    going_to : (next : Next) → new ≡ trying.going t next → IsPrepared next → IsPrepared new.next
-    going_to next e is = subst (λ (z : Trying). IsPrepared z.next) (sym e) is
-
-    same : IsPrepared t.next → new ≡ t → IsPrepared new.next
-    same is e = subst (λ (z : Trying). IsPrepared z.next) (sym e) is
-
-    on : (c : Option ShardState) → trying.PreparesOn c t new → IsPrepared new.next
-    on None e = going_to nexts.Scan e tt
-    on (Some s) (attempts.Refused refusal, a, e) = going_to nexts.Scan e tt
-    on (Some s) (attempts.Spent, a, e) = going_to nexts.Scan e tt
-    on (Some s) (attempts.Ready r, a, e) = going_to (nexts.Cas r) e tt
-
-    go : (n : Next) → t.next ≡ n → trying.PreparesBy n t new → IsPrepared new.next
-    go nexts.Attempt e p = on t.loader.cached p
-    go nexts.Scan e p = same (subst IsPrepared (sym e) tt) p
-    go (nexts.Cas r) e p = same (subst IsPrepared (sym e) tt) p
 
 -- and where no state was seen none is ready after that, if none was before
 still_unready : (t new : Trying) → trying.Prepares t new → t.loader.cached ≡ None → trying.IsScanning t.next → trying.IsScanning new.next

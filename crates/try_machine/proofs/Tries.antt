@@ -28,25 +28,6 @@ pub some_is : {A : Type 0} (P : A → Type 0) (o : Option A) → IsSomeAnd o P �
 some_is P None h = absurd h
 some_is P (Some x) h = (x, refl, h)
 
--- what is ready is of the shard
-ready_carries : (t : Trying) (r : Ready) (c : Option ShardState) → t.loader.cached ≡ c → trying.IsReadyAfter t.loader.shard c t.step r →
-    r.after.shard ≡ t.loader.shard → OnlyCarries t.loader.shard t.step (calls.Cas t.loader.shard r.expected r.bytes)
-ready_carries t r None cached first same = subst (λ (n : Option ℕ). OnlyCarries t.loader.shard t.step
-    (calls.Cas t.loader.shard n r.bytes)) (sym first.expected_is) tt
-ready_carries t r (Some s) cached ready same =
-    let shard_is : s.shard ≡ t.loader.shard = sym (version_in_shard s.shard (s.number + 1) r.bytes r.after t.step ready.written) ∙ same in
-    let written = subst (λ (d : ShardId). version_in d (s.number + 1) r.bytes ≡ Some (r.after, t.step)) shard_is ready.written in
-    subst (λ (n : Option ℕ). OnlyCarries t.loader.shard t.step (calls.Cas t.loader.shard n r.bytes)) (sym ready.expected_is)
-    (refl, (r.after, written))
-
-pub tried_carries : (t : Trying) → trying.IsSound t → OnlyCarries t.loader.shard t.step (trying.call_of t)
-tried_carries t sound = go t.next sound
-  where
-    go : (next : Next) → trying.IsReadyNext t.loader t.step next → OnlyCarries t.loader.shard t.step (trying.call_by t.loader next)
-    go nexts.Attempt h = tt
-    go nexts.Scan h = tt
-    go (nexts.Cas r) h = ready_carries t r t.loader.cached refl h.0 h.1.shard_is
-
 -- a call that is answered with versions is shown
 pub shown_versions : (t : Trying) (r : Reply) (vs : List Version) → trying.IsScanning t.next → r ≡ replies.Versions vs →
     IsShown t.loader.shard (trying.call_of t) r
@@ -70,15 +51,6 @@ empties_of None (replies.Bytes b) answer a h = absurd (let bad : None ≡ Some a
 empties_of None replies.Stored answer a h = absurd (let bad : None ≡ Some a = h in cc)
 empties_of None replies.Deleted answer a h = absurd (let bad : None ≡ Some a = h in cc)
 empties_of (Some s) r answer a h = absurd (let bad : None ≡ Some a = h in cc)
-
--- a failed call alone comes to a fault
-pub tried_fault : (t new : Trying) (r : Reply) → trying.Moves t r new tries.Fault → r ≡ replies.Failed
-tried_fault t new r m = by (how_moved t new r tries.Fault m)
-  where
-    by : HowMoved t new r tries.Fault → r ≡ replies.Failed
-    by (scanned vs idle is n) = absurd n
-    by (failed idle is bad now) = is
-    by (cased rd next n) = n.0
 
 -- a Scan is among the calls that remain where one comes next
 pub scan_remains : (log : Log) (t : Trying) → trying.IsScanning t.next → IsPrepared t.next → 1 ≤ remaining log t.step t.loader.cached t.next

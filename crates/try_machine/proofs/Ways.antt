@@ -12,11 +12,12 @@ use Rattle.load_core.specs.declared.tryings.Trying.{Trying}
 use Rattle.load_core.specs.Trying as trying
 use Rattle.load_core.proofs.Replied.{tried_failed}
 use Rattle.load_core.proofs.Runs.{moves_same}
+use Rattle.load_core.proofs.TryFacts.{tried_fault}
 use Rattle.machine_core.specs.Machines.{GoesOn}
 use Rattle.try_machine.specs.declared.tryers.Tryer.{Tryer}
 use Rattle.try_machine.specs.Rules.{IsEnd, IsRule, Rules}
 use Rattle.try_machine.specs.Tryers.{Ended, Moves, MovesBy, asked_after, empty_answer, empty_of, kept, verdict}
-use Rattle.try_machine.proofs.Tries.{Empties, empties, empties_of, some_is, tried_fault}
+use Rattle.try_machine.proofs.Tries.{Empties, empties, empties_of, some_is}
 
 module _ {R A : Type 0} (Q : Rules R A) where
   pub data Way (m : Tryer R) (r : Reply) (new : Tryer R) (poll : Poll A) : Type 0 where

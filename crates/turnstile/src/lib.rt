@@ -3,6 +3,7 @@
 
 mod counts;
 mod histories;
+pub mod laws;
 mod lends;
 mod passes;
 mod plays;

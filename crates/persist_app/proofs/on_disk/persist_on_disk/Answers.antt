@@ -3,7 +3,7 @@ use Rattle.store_core.specs.Histories.{History}
 use Rattle.store_file.specs.FileStores.{disk_faults, file_faults, history_of, told}
 use Rattle.persist_app.specs.DiskLefts.{opened}
 use Rattle.persist_app.specs.PlainEnds.{EndsPlainly}
-use Rattle.persist_app.proofs.DiskEndings.{ends_since, stands_now, started}
+use Rattle.persist_app.proofs.DiskEndings.{ends_since, first_accepted, first_calls, stands_now, started}
 use Rattle.persist_app.proofs.DiskOpenings.{rose_before}
 use Rattle.persist_app.proofs.on_disk.persist_on_disk.Goals as goal
 
@@ -40,3 +40,9 @@ returns-in-Ok-clause-stands g c =
     let last = c.over_file-status.result.store in
     λ none. stands_now last before (disk_faults last)
     (λ shut. rose_before before (disk_faults first) (disk_faults last) c.in-Ok.ensures.later (c.over_file-status.ensures.shut shut)) none
+
+pub returns-in-Ok-clause-any_moment : goal.returns-in-Ok-clause-any_moment
+returns-in-Ok-clause-any_moment g c = first_calls c.over_file-status.result.store
+
+pub returns-in-Ok-clause-accepted : goal.returns-in-Ok-clause-accepted
+returns-in-Ok-clause-accepted g c = first_accepted c.over_file-status.result.store

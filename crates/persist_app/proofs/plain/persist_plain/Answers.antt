@@ -1,11 +1,12 @@
-use Rattle.std.proofs.Common.{map, string_bytes, ap, subst}
-use Rattle.persist_app.specs.Endings.{Performs}
-use Rattle.persist_app.proofs.TextRead.{line_refused, run_complete}
+use Rattle.std.proofs.Common.{◌≡◌, map, string_bytes, ap, subst, List, Option, None, ℕ}
+use Rattle.feed_text.specs.Streams.{Gains}
+use Rattle.persist_app.specs.Endings.{NoRun, Performs, input_failed_text, words_text}
+use Rattle.persist_app.proofs.Performed.{input_failed, line_refused, performed_as, run_complete, spared}
 use Rattle.persist_app.proofs.plain.persist_plain.Goals as goal
 
 pub returns-clause-complete : goal.returns-clause-complete
-returns-clause-complete g c =
-    λ status. let finished = c.finish.ensures.complete status in
+returns-clause-complete g c = λ status.
+    let finished = c.finish.ensures.complete status in
     let told = g.S.Store.history c.args.store in
     let told_now = g.S.Store.history c.perform-ending.new.port.store in
     let left = g.So.Source.left in
@@ -14,16 +15,16 @@ returns-clause-complete g c =
     let puts = g.Si.Sink.faults in
     let src = c.perform-ending.new.src in
     let out = c.perform-ending.new.out in
-    let performed = subst (λ words. Performs words c.perform-ending.result told told_now (left c.args.src.now) (left src)
-    (faults c.args.src.now) (faults src) (taken c.args.out.now) (taken out) (puts c.args.out.now) (puts out)) (ap
-    (map string_bytes) c.deref.ensures.value) c.perform-ending.ensures.ends in
+    let performed = subst (λ (ws : List (List ℕ)). Performs ws c.perform-ending.result told told_now (left c.args.src.now) (left src)
+    (faults c.args.src.now) (faults src) (taken c.args.out.now) (taken out) (puts c.args.out.now) (puts out))
+    (ap (map string_bytes) c.deref.ensures.value) c.perform-ending.ensures.ends in
     run_complete (map string_bytes c.args.words.now.items) c.perform-ending.result told told_now (left c.args.src.now) (left src)
-    (faults c.args.src.now) (faults src)
-    (taken c.args.out.now) (taken out) (taken c.finish.new.out) (puts c.args.out.now) (puts out) performed finished.0 finished.1
+    (faults c.args.src.now) (faults src) (taken c.args.out.now) (taken out) (puts c.args.out.now) (puts out) performed
+    (taken c.finish.new.out) finished.0 finished.1
 
 pub returns-clause-line : goal.returns-clause-line
-returns-clause-line g c =
-    λ status. let finished = c.finish.ensures.line status in
+returns-clause-line g c = λ status.
+    let finished = c.finish.ensures.line status in
     let told = g.S.Store.history c.args.store in
     let told_now = g.S.Store.history c.perform-ending.new.port.store in
     let left = g.So.Source.left in
@@ -32,9 +33,58 @@ returns-clause-line g c =
     let puts = g.Si.Sink.faults in
     let src = c.perform-ending.new.src in
     let out = c.perform-ending.new.out in
-    let performed = subst (λ words. Performs words c.perform-ending.result told told_now (left c.args.src.now) (left src)
-    (faults c.args.src.now) (faults src) (taken c.args.out.now) (taken out) (puts c.args.out.now) (puts out)) (ap
-    (map string_bytes) c.deref.ensures.value) c.perform-ending.ensures.ends in
-    line_refused (map string_bytes c.args.words.now.items) c.perform-ending.result told told_now finished.0 (left c.args.src.now)
-    (left src) (faults c.args.src.now) (faults src) (taken c.args.out.now) (taken out) (taken c.finish.new.out)
-    (puts c.args.out.now) (puts out) performed finished.1 finished.2
+    let performed = subst (λ (ws : List (List ℕ)). Performs ws c.perform-ending.result told told_now (left c.args.src.now) (left src)
+    (faults c.args.src.now) (faults src) (taken c.args.out.now) (taken out) (puts c.args.out.now) (puts out))
+    (ap (map string_bytes) c.deref.ensures.value) c.perform-ending.ensures.ends in
+    line_refused (map string_bytes c.args.words.now.items) c.perform-ending.result told told_now (left c.args.src.now) (left src)
+    (faults c.args.src.now) (faults src) (taken c.args.out.now) (taken out) (puts c.args.out.now) (puts out) performed
+    (taken c.finish.new.out) finished.0 finished.1 finished.2
+
+pub returns-clause-input : goal.returns-clause-input
+returns-clause-input g c = λ status.
+    let finished = c.finish.ensures.input status in
+    let told = g.S.Store.history c.args.store in
+    let told_now = g.S.Store.history c.perform-ending.new.port.store in
+    let left = g.So.Source.left in
+    let faults = g.So.Source.faults in
+    let taken = g.Si.Sink.taken in
+    let puts = g.Si.Sink.faults in
+    let src = c.perform-ending.new.src in
+    let out = c.perform-ending.new.out in
+    let performed = subst (λ (ws : List (List ℕ)). Performs ws c.perform-ending.result told told_now (left c.args.src.now) (left src)
+    (faults c.args.src.now) (faults src) (taken c.args.out.now) (taken out) (puts c.args.out.now) (puts out))
+    (ap (map string_bytes) c.deref.ensures.value) c.perform-ending.ensures.ends in
+    input_failed (map string_bytes c.args.words.now.items) c.perform-ending.result told told_now (left c.args.src.now) (left src)
+    (faults c.args.src.now) (faults src) (taken c.args.out.now) (taken out) (puts c.args.out.now) (puts out) performed
+    (taken c.finish.new.out) input_failed_text finished.0 finished.1
+
+pub returns-clause-no_command : goal.returns-clause-no_command
+returns-clause-no_command g c = λ status.
+    let finished = c.finish.ensures.no_command status in
+    let told = g.S.Store.history c.args.store in
+    let told_now = g.S.Store.history c.perform-ending.new.port.store in
+    let left = g.So.Source.left in
+    let faults = g.So.Source.faults in
+    let taken = g.Si.Sink.taken in
+    let puts = g.Si.Sink.faults in
+    let src = c.perform-ending.new.src in
+    let out = c.perform-ending.new.out in
+    let performed = subst (λ (ws : List (List ℕ)). Performs ws c.perform-ending.result told told_now (left c.args.src.now) (left src)
+    (faults c.args.src.now) (faults src) (taken c.args.out.now) (taken out) (puts c.args.out.now) (puts out))
+    (ap (map string_bytes) c.deref.ensures.value) c.perform-ending.ensures.ends in
+    let none = performed_as (map string_bytes c.args.words.now.items) c.perform-ending.result told told_now (left c.args.src.now) (left src)
+    (faults c.args.src.now) (faults src) (taken c.args.out.now) (taken out) (puts c.args.out.now) (puts out) performed None finished.0 in
+    (none.0, subst (λ (t : Option (List ℕ)). Gains t (taken c.finish.new.out) words_text) none.1 finished.1)
+
+pub returns-clause-idle : goal.returns-clause-idle
+returns-clause-idle g c =
+    subst (λ (ws : List (List ℕ)). NoRun ws → (c.perform-ending.new.port.store ≡ c.args.store) × (c.perform-ending.new.src ≡ c.args.src.now))
+    (ap (map string_bytes) c.deref.ensures.value) c.perform-ending.ensures.idle
+
+pub returns-clause-untouched : goal.returns-clause-untouched
+returns-clause-untouched g c =
+    let taken = g.Si.Sink.taken in
+    let puts = g.Si.Sink.faults in
+    let out = c.perform-ending.new.out in
+    spared c.perform-ending.result c.finish.result (taken out) (taken c.finish.new.out) (puts out) (puts c.finish.new.out) c.args.store
+    c.perform-ending.new.port.store c.finish.ensures c.perform-ending.ensures.spares

@@ -1,5 +1,0 @@
-use Rattle.history_core.proofs.worked.broken_commits.Goals as goal
-use Rattle.history_core.proofs.WorkedBrokenCas.{cas_seen, cas_own, cas_applies, merge_keeps}
-
-pub returns : goal.returns
-returns c = record { unseen = cas_seen; another = cas_own; misapplied = cas_applies; dropping = merge_keeps }

@@ -1,5 +1,0 @@
-use Rattle.history_core.proofs.worked.worked_is_lawful.Goals as goal
-use Rattle.history_core.proofs.WorkedLaw.{worked_lawful, prefixes_lawful}
-
-pub returns : goal.returns
-returns c = record { whole = worked_lawful; prefixes = prefixes_lawful }

@@ -1,0 +1,12 @@
+pub mod Examples
+pub mod Quietly
+pub mod Stepped
+pub mod Views
+pub mod Refused
+pub mod DriveLaws
+pub mod SessionLaws
+pub mod WriteLaws
+pub mod ReadLaws
+pub mod ReplyLaws
+pub mod RunLaws
+pub mod TextRead

@@ -1,0 +1,6 @@
+pub mod PlainRuns
+pub mod RunFaults
+pub mod Endings
+pub mod Sessions
+pub mod Drives
+pub mod Answering

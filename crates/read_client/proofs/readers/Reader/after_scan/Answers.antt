@@ -1,6 +1,0 @@
-use Rattle.read_client.proofs.Moving.{nothing_scans_all}
-use Rattle.read_client.proofs.readers.Reader.after_scan.Goals as goal
-
-pub returns-in-Nothing-clause-moves : goal.returns-in-Nothing-clause-moves
-returns-in-Nothing-clause-moves c =
-    nothing_scans_all c.args.self.now c.args.question.now c.args.reply c.in_ok-look.field-0 c.after_nothing.new.self c.after_nothing.result c.in-Nothing.is c.in_ok-look.ensures c.after_nothing.ensures.moves

@@ -1,0 +1,10 @@
+pub mod Costs
+pub mod Effects
+pub mod Following
+pub mod Members
+pub mod Once
+pub mod Reasons
+pub mod Spendings
+pub mod Stepping
+pub mod Unspent
+pub mod Ways

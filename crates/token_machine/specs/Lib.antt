@@ -1,0 +1,4 @@
+pub mod Following
+pub mod Legality
+pub mod Outcomes
+pub mod Storings
