@@ -1,6 +1,7 @@
 pub mod Costs
 pub mod Effects
 pub mod Following
+pub mod LastCas
 pub mod Members
 pub mod Once
 pub mod Reasons
