@@ -3,6 +3,7 @@ pub mod Effects
 pub mod Following
 pub mod LastCas
 pub mod Members
+pub mod Merges
 pub mod Once
 pub mod Reasons
 pub mod Spendings

@@ -1,5 +1,5 @@
 -- What a command that stores parts under a token comes to.
-use Rattle.std.specs.Prelude.{⊤, ℕ, ◌==◌, ◌&&◌, if◌then◌else◌, unwrap_or}
+use Rattle.std.specs.Prelude.{⊤, ◌≡◌, ℕ, ◌==◌, ◌&&◌, if◌then◌else◌, unwrap_or}
 use Rattle.state_core.specs.declared.refusals.Refusal.{Refusal}
 use Rattle.state_core.specs.declared.refusals.Refusal.TheVariants as refusals
 use Rattle.load_core.specs.declared.tries.Tried.{Tried}
@@ -29,3 +29,9 @@ stored t token tries.Fault = storeds.Fault
 stored t token (tries.Refused refusal) = token_outcome t token refusal
 stored t token tries.Spent = storeds.Spent
 stored t token (tries.Damaged damage) = storeds.Damaged damage
+
+-- the transition is in as this version
+abbrev pub IsInAs : Stored → ℕ → Type 0
+IsInAs (storeds.Now at) version = at ≡ version
+IsInAs (storeds.Before at) version = at ≡ version
+IsInAs _ version = ⊥

@@ -8,13 +8,16 @@ ghost use Rattle.store_core.specs.declared.replies.Reply.{Reply};
 ghost use Rattle.store_core.specs.Newest.{mine_back};
 ghost use Rattle.store_core.specs.Ports.{Answered, OfOthers};
 ghost use Rattle.store_core.specs.Stores.{Stored};
+ghost use Rattle.spine_core.specs.declared.batches.Batch.{Batch};
 ghost use Rattle.state_core.specs.declared.kinds.Kind.{Kind};
 ghost use Rattle.state_core.specs.declared.transitions.Transition.{Transition};
+ghost use Rattle.state_core.specs.declared.transitions.Transition.TheVariants.{Merge};
 ghost use Rattle.state_core.specs.Lists.{Among};
 ghost use Rattle.state_core.specs.Steps.{AreKeys};
 ghost use Rattle.state_core.specs.VersionReading.{most};
 ghost use Rattle.history_core.specs.Discipline.{Allows, Holds, Owns};
 ghost use Rattle.history_core.specs.Placing.{places};
+ghost use Rattle.history_core.specs.Upkeep.{MergedAs};
 ghost use Rattle.load_core.specs.declared.settings.Setting.{Setting};
 ghost use Rattle.load_core.specs.declared.tries.Tried.{Tried};
 ghost use Rattle.load_core.specs.Costing.{CostAfter, CostEnded, CostKept, IsPrepared};
@@ -24,8 +27,8 @@ ghost use Rattle.load_core.specs.Runs.{AllCarry, IsNotIn, NoneCommits};
 ghost use Rattle.load_core.specs.Setting as setting;
 ghost use Rattle.token_machine.specs.declared.storings.Storing.{Storing};
 ghost use Rattle.token_machine.specs.Following.{CommitsLast, FollowsStoring, IsAfter, UsesToken};
-ghost use Rattle.token_machine.specs.Legality.{LegalStored, StoredEffect, StoresAt, StoringMoves};
-ghost use Rattle.token_machine.specs.Outcomes.{stored};
+ghost use Rattle.token_machine.specs.Legality.{LegalStored, StoredEffect, StoresAt, StoringMoves, command_entries};
+ghost use Rattle.token_machine.specs.Outcomes.{IsInAs, stored};
 ghost use Rattle.token_machine.specs.Storings.{IsSound, Moves, call_of, resumed};
 
 /// Over a lawful history each outcome means what it says, for a member of every kind and each transition that spends its token: where
@@ -35,6 +38,15 @@ pub fn storings_are_legal()
     ensures { (kind : Kind) (member token : ℕ) (s new : Storing) (client : ℕ) (list : List Update) (start : Stored) (e : Entry) (others es : List Entry)
         → StoresAt kind member token s client list start e others es → (tried : Tried) → StoringMoves s start e (others ++ es) new tried
         → LegalStored client member token s new start e (others ++ es) (stored new.trying token tried) }
+{}
+
+/// So a merge that is in, now or before, may be answered as merged with the version that is told.
+pub fn merges_are_in()
+    ensures { (kind : Kind) (member token : ℕ) (s new : Storing) (client : ℕ) (list : List Update) (start : Stored) (e : Entry) (others es : List Entry)
+        → StoresAt kind member token s client list start e others es → (left right merged : Batch) → s.trying.step ≡ Merge member token left right merged
+        → (tried : Tried) → StoringMoves s start e (others ++ es) new tried → s.trying.calls < most → (version : ℕ)
+        → IsInAs (stored new.trying token tried) version
+        → Among (MergedAs start s.trying.loader.shard member token version) (command_entries client s e (others ++ es)) }
 {}
 
 /// The next call is one that the client may make, where a part that is left may be set, and where once all are set what the
