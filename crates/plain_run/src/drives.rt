@@ -31,23 +31,13 @@ pub(crate) fn drive_writer<S: Store>(
 ) -> Result<WriteAnswer, SessionFault>
     requires open { writers.IsOpen writer.old }
     requires sound { writers.IsSound writer.old }
-<<<<<<< HEAD:crates/plain_run/src/drives.rt
     requires shard { writers.shard_of writer.old ≡ place.shard }
-    requires begun { writer.old.trying.calls ≡ 0 }
+    requires begun { writer.old.storing.trying.calls ≡ 0 }
     requires follows { writes.FollowsWhere place.writer (S.history port.old.store) writer.old }
     requires cost { WhereLawful (writers.shard_of writer.old) (S.history port.old.store) (Backwards (writing.CostAt 3 place.writer writer.old)) }
     ensures told { Goes place.shard (S.history port.old.store) (S.history port.new.store)
         (Driven place.shard write_machine.machine place.writer (write_machine.kept writer.old) result) }
     ensures by { OnOk result (GrowsBy place.writer (S.history port.old.store) (S.history port.new.store)) }
-=======
-    requires shard { writers.shard_of writer.old ≡ own_shard }
-    requires begun { writer.old.storing.trying.calls ≡ 0 }
-    requires follows { writes.FollowsWhere 0 (S.history port.old.store) writer.old }
-    requires cost { WhereLawful (writers.shard_of writer.old) (S.history port.old.store) (Backwards (writing.CostAt 3 0 writer.old)) }
-    ensures told { Goes own_shard (S.history port.old.store) (S.history port.new.store)
-        (Driven write_machine.machine 0 (write_machine.kept writer.old) result) }
-    ensures by { OnOk result (GrowsBy 0 (S.history port.old.store) (S.history port.new.store)) }
->>>>>>> origin/tokens:crates/persist_app/src/drives.rt
     ensures ended { IfOk result (λ answer. write_machine.Ended (write_machine.kept writer.old) answer writer.new) }
     ensures sound { writers.IsSound writer.new }
     ensures follows { OnOk result (writes.FollowsWhere place.writer (S.history port.new.store) writer.new) }
