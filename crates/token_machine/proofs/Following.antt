@@ -1,5 +1,6 @@
 -- Parts and a transition follow from their client's own entries when they begin, once they are prepared, and past entries of others.
-use Rattle.std.proofs.Common.{◌≡◌, ℕ, zero, suc, ◌<◌, Some, None, List, [], ◌∷◌, ◌++◌, take, drop, inl, inr, sym, ap, subst, ◌∙◌}
+use Rattle.std.proofs.Common.{◌≡◌, ℕ, zero, suc, ◌<◌, Some, None, List, [], ◌∷◌, ◌++◌, take, drop, inl, inr, sym, ap, subst}
+use Rattle.std.proofs.Common.{◌∙◌, refl, Option, Some, None}
 use Rattle.std.specs.List.{AllByRecursion, slice_get, zip}
 use Rattle.store_core.specs.declared.shards.ShardId.{ShardId}
 use Rattle.store_core.specs.declared.part_keys.PartKey.{PartKey}
@@ -16,11 +17,15 @@ use Rattle.state_core.proofs.ListLemmas.{among_map}
 use Rattle.history_core.specs.Discipline.{IsCasUnder, Owns, StoredAs}
 use Rattle.history_core.specs.Placing.{Placed, places}
 use Rattle.history_core.proofs.Gaining.{mine_others, places_others}
+use Rattle.load_core.specs.declared.nexts.Next.{Next}
+use Rattle.load_core.specs.declared.nexts.Next.TheVariants as nexts
 use Rattle.load_core.specs.declared.settings.Setting.{Setting}
+use Rattle.load_core.specs.declared.tryings.Trying.{Trying}
+use Rattle.load_core.specs.Trying as trying
 use Rattle.load_core.specs.PartsFollowing.{IsSettable, IsStoredSoFar, SetsAs}
 use Rattle.load_core.specs.Runs.{AllCarry, CommitsAfter, NoneCommits, OnlyCarries}
 use Rattle.token_machine.specs.declared.storings.Storing.{Storing}
-use Rattle.token_machine.specs.Following.{FollowsStoring, IsAfter, IsSetUnder, UsesToken}
+use Rattle.token_machine.specs.Following.{CommitsLast, FollowsStoring, IsAfter, IsLastCas, IsSetUnder, UsesToken}
 use Rattle.token_machine.specs.Storings.{Prepares}
 use Rattle.token_machine.proofs.Spendings.{own_others}
 use Rattle.token_machine.proofs.Unspent.{unused_unspent}
@@ -64,8 +69,11 @@ pub storing_begun : (client member token : ℕ) (s : Storing) (start : Stored) (
     s.setting.place ≡ 0 → (¬ Among (λ o. UsesToken s.trying.loader.shard member token o.entry.call) (mine_back start es client)) →
     (s.trying.calls < most → AllCarry s.trying client es) →
     (s.trying.calls < most → AllByRecursion (λ p. IsAfter p.entry.call) (places client s.trying.calls es)) →
-    (s.trying.calls < most → NoneCommits s.trying client start es) → FollowsStoring client member token s start es
-storing_begun client member token s start es owned keys unset unused carry after none = record {
+    (s.trying.calls < most → NoneCommits s.trying client start es) →
+    (s.trying.calls < most → AllByRecursion (CommitsLast start s.trying.loader.shard s.trying.next s.trying.tried)
+    (places client s.trying.calls es)) →
+    FollowsStoring client member token s start es
+storing_begun client member token s start es owned keys unset unused carry after none last = record {
   stored = subst (λ (n : ℕ). AllByRecursion (λ p. StoredAs own p.0 p.1) (take n (zip s.setting.keys s.setting.parts)))
       (sym unset) tt;
   settable = λ left. record {
@@ -79,6 +87,7 @@ storing_begun client member token s start es owned keys unset unused carry after
   carry = carry;
   after = after;
   none = none;
+  last = last;
   unspent = λ fine. unused_unspent start s.trying.loader.shard client member token es fresh;
 }
   where
@@ -91,6 +100,33 @@ storing_begun client member token s start es owned keys unset unused carry after
 
 -- ---- before a call
 
+-- the last Cas stays so
+pub last_on : (start : Stored) (shard : ShardId) (next next2 : Next) (tried tried2 : Option ℕ) →
+    ((n : Option ℕ) → IsLastCas next tried n → IsLastCas next2 tried2 n) → (ps : List Placed) →
+    AllByRecursion (CommitsLast start shard next tried) ps → AllByRecursion (CommitsLast start shard next2 tried2) ps
+last_on start shard next next2 tried tried2 on [] h = tt
+last_on start shard next next2 tried tried2 on (p ∷ ps) h =
+    ((λ c. on c.expected (h.0 c)), last_on start shard next next2 tried tried2 on ps h.1)
+
+pub to_scan : (next : Next) (tried : Option ℕ) → trying.IsScanning next → (n : Option ℕ) → IsLastCas next tried n →
+    IsLastCas nexts.Scan tried n
+to_scan nexts.Attempt tried idle n h = absurd h
+to_scan nexts.Scan tried idle n h = h
+to_scan (nexts.Cas r) tried idle n h = absurd idle
+
+-- preparing changes no Scan that comes next
+prepared_on : (old new : Storing) → Prepares old new → (n : Option ℕ) → IsLastCas old.trying.next old.trying.tried n →
+    IsLastCas new.trying.next old.trying.tried n
+prepared_on old new (t, p, is) n h = subst (λ (z : Storing). IsLastCas z.trying.next old.trying.tried n) (sym is)
+    (go old.trying.next refl p h)
+  where
+    go : (next : Next) → old.trying.next ≡ next → trying.PreparesBy next old.trying t → IsLastCas next old.trying.tried n →
+        IsLastCas t.next old.trying.tried n
+    go nexts.Attempt e q k = absurd k
+    go nexts.Scan e q k = subst (λ (z : Trying). IsLastCas z.next old.trying.tried n) (sym q)
+        (subst (λ (m : Next). IsLastCas m old.trying.tried n) (sym e) k)
+    go (nexts.Cas r) e q k = absurd k
+
 pub storing_prepared : (client member token : ℕ) (old new : Storing) (start : Stored) (es : List Entry) → Prepares old new →
     FollowsStoring client member token old start es → FollowsStoring client member token new start es
 storing_prepared client member token old new start es prepares h =
@@ -101,6 +137,8 @@ storing_prepared client member token old new start es prepares h =
       carry = h.carry;
       after = h.after;
       none = h.none;
+      last = λ lt. last_on start old.trying.loader.shard old.trying.next new.trying.next old.trying.tried old.trying.tried
+          (λ n is. prepared_on old new prepares n is) (places client old.trying.calls es) (h.last lt);
       unspent = h.unspent;
     })
 
@@ -121,6 +159,9 @@ storing_past client member token s start others es of h = record {
   after = λ lt. subst (λ (ps : List Placed). AllByRecursion (λ p. IsAfter p.entry.call) ps) (sym place) (h.after lt);
   none = λ lt fine. subst (λ (ps : List Placed). ¬ Among (CommitsAfter start s.trying.loader.shard) ps) (sym place)
       (h.none lt fine);
+  last = λ lt. subst (λ (ps : List Placed). AllByRecursion
+      (CommitsLast start s.trying.loader.shard s.trying.next s.trying.tried) ps) (sym place)
+      (h.last lt);
   unspent = λ fine. own_others start s.trying.loader.shard client member token others es of ∙ h.unspent fine;
 }
   where

@@ -1,7 +1,9 @@
 pub mod Costs
 pub mod Effects
 pub mod Following
+pub mod LastCas
 pub mod Members
+pub mod Merges
 pub mod Once
 pub mod Reasons
 pub mod Spendings

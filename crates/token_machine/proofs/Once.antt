@@ -1,7 +1,7 @@
 -- What is in and what isn't of a command under a token, by the last state. Entries go newest first.
 use Rattle.std.proofs.Common.{◌≡◌, ℕ, zero, suc, ◌+◌, ◌<◌, ◌≤◌, ◌==◌, ◌&&◌, false, Option, Some, None, List}
 use Rattle.std.proofs.Common.{[], ◌∷◌, ◌++◌, length, inl, inr, refl, sym, ap, subst, ◌∙◌, arith, eqb}
-use Rattle.std.specs.Prelude.{⊤}
+use Rattle.std.specs.Prelude.{⊤, unwrap_or}
 use Rattle.std.specs.List.{AllByRecursion}
 use Rattle.std.proofs.lemmas.Bool.{eqb-true, eq-eqb}
 use Rattle.update_core.specs.declared.updates.Update.{Update}
@@ -32,8 +32,10 @@ use Rattle.history_core.proofs.Entries.{lawful_older, mine_older}
 use Rattle.history_core.proofs.Gaining.{mine_others}
 use Rattle.history_core.proofs.Logs.{and_true}
 use Rattle.load_core.specs.declared.nexts.Next.{Next}
+use Rattle.load_core.specs.declared.nexts.Next.TheVariants as nexts
 use Rattle.load_core.specs.declared.tries.Tried.{Tried}
 use Rattle.load_core.specs.declared.tries.Tried.TheVariants as tries
+use Rattle.load_core.specs.declared.tryings.Trying.{Trying}
 use Rattle.load_core.specs.Attempts.{standing_refusal}
 use Rattle.load_core.specs.Outcomes.{Committing, Newest}
 use Rattle.load_core.specs.Runs.{OnlyCarries}
@@ -43,8 +45,8 @@ use Rattle.load_core.proofs.Outcomes.{HowMoved, cased, committed_here, failed, h
 use Rattle.load_core.proofs.Outcomes.{newest_spent, scanned}
 use Rattle.load_core.proofs.Runs.{moves_same}
 use Rattle.token_machine.specs.declared.storings.Storing.{Storing}
-use Rattle.token_machine.specs.Following.{FollowsStoring, IsAfter, Lower, UsesToken}
-use Rattle.token_machine.specs.Legality.{IsInNever, IsInOnce, LegalStored, StepAt, StoresAt, StoringMoves}
+use Rattle.token_machine.specs.Following.{CommitsLast, FollowsStoring, IsAfter, IsLastCas, Lower, UsesToken}
+use Rattle.token_machine.specs.Legality.{IsInNever, IsInOnce, LegalStored, StepAs, StepAt, StoresAt, StoringMoves}
 use Rattle.token_machine.specs.Outcomes.{stored, token_outcome}
 use Rattle.token_machine.specs.Storings.{sets_before}
 use Rattle.token_machine.proofs.Following.{storing_past}
@@ -153,17 +155,17 @@ module _ (kind : Kind) (member token : ℕ) (s : Storing) (client : ℕ) (list :
   own_is : Own ≡ mine_back start es client
   own_is = mine_others start client others es at.of_others
 
-  lawful : LawfulBack start Before
+  pub lawful : LawfulBack start Before
   lawful = lawful_older start e Before at.lawful
 
-  past : FollowsStoring client member token s start Before
+  pub past : FollowsStoring client member token s start Before
   past = storing_past client member token s start others es at.of_others at.storing
 
   owned : Owns Own Shard member
   owned = subst (λ (os : List Answered). Owns os Shard member) (sym own_is)
       (joined_owns kind (mine_back start es client) Shard member at.draws.joined)
 
-  none_before : (st : ShardState) → LastIs (replay_back start Before) Shard st.number st → Lower member token st →
+  pub none_before : (st : ShardState) → LastIs (replay_back start Before) Shard st.number st → Lower member token st →
       s.trying.calls < most → ¬ Among (Commits start Shard) (places client s.trying.calls Before)
   none_before st last lower lt h =
       none_under start Shard list at.stands client member token Before lawful owned st.number st last lower s.trying.calls
@@ -182,22 +184,26 @@ module _ (kind : Kind) (member token : ℕ) (s : Storing) (client : ℕ) (list :
 
   -- ---- the commit that was just answered
 
-  in_now : (new : Storing) (version : ℕ) → Told new (tries.Committed version) → IsInOnce client s start e Before
+  in_now : (new : Storing) (version : ℕ) → Told new (tries.Committed version) → IsInOnce client s start e Before version
   in_now new version w = record {
     done = done_by (how_moved s.trying w.to Answer (tries.Committed version) w.moves);
     stored = past.stored;
     once = λ lt. inl (
       c.commit,
-      record {
-        commit = c.commit;
-        number = c.from.number;
-        expected_is = c.expected_is;
-        to = c.carries.to;
-        written = subst (λ (b : List ℕ). version_in Shard (c.from.number + 1) b ≡ Some (c.carries.to, s.trying.step)) c.same numbered;
-        client_is = at.own;
-        lawful = at.lawful;
-        stored = λ k b h. h;
-      },
+      (
+        record {
+          commit = c.commit;
+          number = c.from.number;
+          expected_is = c.expected_is;
+          to = c.carries.to;
+          written = subst (λ (b : List ℕ). version_in Shard (c.from.number + 1) b ≡ Some
+              (c.carries.to, s.trying.step)) c.same numbered;
+          client_is = at.own;
+          lawful = at.lawful;
+          stored = λ k b h. h;
+        },
+        c.number,
+      ),
       none_before c.from c.last (spends_lower s.trying.step member token c.from c.carries.to at.spends c.applies) lt,
     );
   }
@@ -207,7 +213,8 @@ module _ (kind : Kind) (member token : ℕ) (s : Storing) (client : ℕ) (list :
           at.of_others at.stands lawful at.follows version w.moves
 
       numbered : version_in Shard (c.from.number + 1) c.carries.bytes ≡ Some (c.carries.to, s.trying.step)
-      numbered = subst (λ (k : ℕ). version_in Shard k c.carries.bytes ≡ Some (c.carries.to, s.trying.step)) c.number c.carries.carries
+      numbered = subst (λ (k : ℕ). version_in Shard k c.carries.bytes ≡ Some
+          (c.carries.to, s.trying.step)) c.number c.carries.carries
 
       done_by : HowMoved s.trying w.to Answer (tries.Committed version) → setting.IsDone s.setting
       done_by (scanned vs idle r m) = absurd m
@@ -229,6 +236,36 @@ module _ (kind : Kind) (member token : ℕ) (s : Storing) (client : ℕ) (list :
     same_failed fine = (moves_same s.trying w.to Answer (tries.Refused refusal) w.moves).failed
         (sym (ap (λ (z : Storing). z.trying.failed) w.is) ∙ fine)
 
+    -- the Scan leaves the last Cas
+    same_tried : new.trying.tried ≡ s.trying.tried
+    same_tried = ap (λ (z : Storing). z.trying.tried) w.is ∙ go (how_moved s.trying w.to Answer (tries.Refused refusal) w.moves)
+      where
+        go : HowMoved s.trying w.to Answer (tries.Refused refusal) → w.to.tried ≡ s.trying.tried
+        go (scanned vs idle r (st, reads, refused, now)) = ap (λ (z : Trying). z.tried) now
+        go (failed idle r bad now) = absurd (let no_fault : tries.Refused refusal ≡ tries.Fault = bad in cc)
+        go (cased rd next m) = absurd m
+
+    -- which is as the version that it was for
+    last_version : (next : Next) (n : ℕ) → IsLastCas next s.trying.tried (Some n) → unwrap_or new.trying.tried 0 ≡ n + 1
+    last_version nexts.Scan n h = ap (λ (o : Option ℕ). unwrap_or o 0) (same_tried ∙ h)
+    last_version nexts.Attempt n h = absurd h
+    last_version (nexts.Cas r) n h = absurd h
+
+    once_last : (ps : List Placed) → AllByRecursion (CommitsLast start Shard s.trying.next s.trying.tried) ps →
+        OnlyOne (Commits start Shard) (StepAt client Own start Shard s.trying.step) ps →
+        OnlyOne (Commits start Shard) (StepAs client Own start Shard s.trying.step (unwrap_or new.trying.tried 0)) ps
+    once_last [] h one = one
+    once_last (p ∷ ps) h (inl k) = inl (
+      k.0,
+      (
+        k.1,
+        last_version s.trying.next k.1.number (subst (λ (n : Option ℕ).
+            IsLastCas s.trying.next s.trying.tried n) k.1.expected_is (h.0 k.1.commit)),
+      ),
+      k.2,
+    )
+    once_last (p ∷ ps) h (inr k) = inr (k.0, once_last ps h.1 k.1)
+
     -- where the token isn't spent none of the command's entries has committed
     never_in : Lower member token newest.state → IsInNever client s start e Before
     never_in lower lt (inl k) = scan_no_commit start Shard e Before newest.scan k
@@ -236,15 +273,18 @@ module _ (kind : Kind) (member token : ℕ) (s : Storing) (client : ℕ) (list :
 
     -- where the last state has the token, one of the command's calls has committed, which was after all parts were set
     in_before : Stands member (λ m. m.token ≡ token) newest.state.members → IsInOnce client s start e Before
+        (unwrap_or new.trying.tried 0)
     in_before stands = record {
-      done = all_set (λ left. (past.settable left).fresh
-          (own_under start Shard list at.stands client member token Before lawful owned newest.state.number newest.state newest.last at.some_token stands));
+      done = all_set (λ left. (past.settable left).fresh (own_under start Shard list at.stands client member token Before lawful
+          owned newest.state.number newest.state newest.last at.some_token stands));
       stored = past.stored;
       once = λ lt. inr (
         scan_no_commit start Shard e Before newest.scan,
-        once_in start Shard s.trying.step member token at.spends client Own s.trying.calls Before lawful (λ q b h. h)
+        once_last (places client s.trying.calls Before) (past.last lt)
+            (once_in start Shard s.trying.step member token at.spends client Own s.trying.calls Before lawful (λ q b h. h)
             (past.carry lt) (past.after lt)
-            (committed_once start Shard list Before at.stands lawful client s.trying.calls member token newest.state.number newest.state owned newest.last at.some_token stands (past.fresh lt)),
+            (committed_once start Shard list Before at.stands lawful client s.trying.calls member token newest.state.number
+            newest.state owned newest.last at.some_token stands (past.fresh lt))),
       );
     }
       where
@@ -269,7 +309,7 @@ module _ (kind : Kind) (member token : ℕ) (s : Storing) (client : ℕ) (list :
         (one_under start Shard list at.stands client member token Before lawful owned newest.state.number newest.state newest.last at.some_token (subst (λ (t : ℕ). Stands member (λ m. m.token ≡ t) newest.state.members) same there.stands))
 
   refused_legal : (new : Storing) (refusal : Refusal) → Told new (tries.Refused refusal) →
-      LegalStored client member token s new start e Before (token_outcome new.trying.failed token refusal)
+      LegalStored client member token s new start e Before (token_outcome new.trying token refusal)
   refused_legal new (refusals.TokenOld last) w =
       let n = newest new (refusals.TokenOld last) w in
       let there = token_there n.state member token last s.trying.step at.spends n.so in
@@ -292,7 +332,7 @@ module _ (kind : Kind) (member token : ℕ) (s : Storing) (client : ℕ) (list :
       (call new tries.Spent w) at.of_others at.stands lawful at.follows w.moves)
 
   pub legal : (new : Storing) (tried : Tried) → StoringMoves s start e Before new tried →
-      LegalStored client member token s new start e Before (stored new.trying.failed token tried)
+      LegalStored client member token s new start e Before (stored new.trying token tried)
   legal new tries.Begun moves = tt
   legal new tries.Again moves = tt
   legal new tries.Goes moves = tt

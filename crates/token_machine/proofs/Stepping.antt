@@ -41,9 +41,9 @@ use Rattle.load_core.proofs.Outcomes.{follows_called, follows_gained, scan_call}
 use Rattle.load_core.proofs.Runs.{Same, moves_same, next_calls, none_commits_on}
 use Rattle.load_core.proofs.SettingFollows.{next_is, still_settable, still_stored}
 use Rattle.token_machine.specs.declared.storings.Storing.{Storing}
-use Rattle.token_machine.specs.Following.{Draws, FollowsStoring, IsAfter, UsesToken}
+use Rattle.token_machine.specs.Following.{CommitsLast, Draws, FollowsStoring, IsAfter, UsesToken}
 use Rattle.token_machine.specs.Storings.{IsSound, Moves, call_of, called, counted, sets, sets_before}
-use Rattle.token_machine.proofs.Following.{key_under}
+use Rattle.token_machine.proofs.Following.{key_under, last_on, to_scan}
 use Rattle.token_machine.proofs.Unspent.{scan_none, set_none, tried_none, unspent_on}
 use Rattle.token_machine.proofs.Ways.{Way, call_false, call_true, carries, scans_call, scans_first, set, sets_open, try, way}
 
@@ -180,14 +180,19 @@ module _ (client : ℕ) (s : Storing) (start : Stored) (e : Entry) (others es : 
       | inr q ↦ subst IsAfter (sym (call_false s e.call q call_is)) (tried_after s.trying sound.trying seen)
     ]
 
+    -- this entry and the older ones are the last Cas where they commit
+    abbrev LastOn : Storing → Type 0
+    LastOn new = s.trying.calls < most → AllByRecursion (CommitsLast start s.trying.loader.shard new.trying.next new.trying.tried)
+        (placed e (others ++ es) ∷ places client s.trying.calls es)
+
     storing_on : (new : Storing) → Same s.trying new.trying →
         (new.trying.calls < most → NoneCommits s.trying client start es → NoneCommits new.trying client start
         (e ∷ (others ++ es))) →
         (new.trying.failed ≡ false → is_commit_under (replay_back start
         (others ++ es)) s.trying.loader.shard m token e e.call ≡ false) →
         IsStoredSoFar (This ∷ Mine) new.setting →
-        (setting.IsOpen new.setting → IsSettable (This ∷ Mine) s.trying.loader.shard m token new.setting) → On new
-    storing_on new same none quiet stored settable = record {
+        (setting.IsOpen new.setting → IsSettable (This ∷ Mine) s.trying.loader.shard m token new.setting) → LastOn new → On new
+    storing_on new same none quiet stored settable last = record {
       stored = subst (λ (os : List Answered). IsStoredSoFar os new.setting) (sym gained) stored;
       settable = λ left. subst (λ (os : List Answered). IsSettable os new.trying.loader.shard m token new.setting) (sym gained)
           (subst (λ (d : ShardId). IsSettable (This ∷ Mine) d m token new.setting) (sym same.shard) (settable left));
@@ -210,6 +215,11 @@ module _ (client : ℕ) (s : Storing) (start : Stored) (e : Entry) (others es : 
       after = λ lt. subst (λ (ps : List Placed). AllByRecursion (λ p. IsAfter p.entry.call) ps) (sym (entries lt))
           (after_call, h.after (before lt));
       none = λ lt. none lt (h.none (before lt));
+      last = λ lt. subst (λ (ps : List Placed). AllByRecursion
+          (CommitsLast start new.trying.loader.shard new.trying.next new.trying.tried) ps)
+          (sym (entries lt)) (subst (λ (d : ShardId). AllByRecursion
+          (CommitsLast start d new.trying.next new.trying.tried) More) (sym same.shard)
+          (last (before lt)));
       unspent = λ good. subst (λ (d : ShardId). own_commits start d client m token (e ∷ (others ++ es)) ≡ 0) (sym same.shard)
           (unspent_on start s.trying.loader.shard client m token e others es of (quiet good) (h.unspent (same.failed good)));
     }
@@ -274,8 +284,8 @@ module _ (client : ℕ) (s : Storing) (start : Stored) (e : Entry) (others es : 
     stored_on (p ∷ ps) all = (inr all.0, stored_on ps all.1)
 
     -- while the command goes on, and where it ends without a commit
-    pub storing_moved : (new : Storing) (tried : Tried) → IsNotIn tried → Moves s This.reply new tried → On new
-    storing_moved new tried out moves = by (way s new This.reply tried moves)
+    pub storing_moved : (new : Storing) (tried : Tried) → LastOn new → IsNotIn tried → Moves s This.reply new tried → On new
+    storing_moved new tried last out moves = by (way s new This.reply tried moves)
       where
         by : Way s This.reply new tried → On new
         by (set q (p, progress, m_is, n, is)) = subst On (sym n)
@@ -289,14 +299,14 @@ module _ (client : ℕ) (s : Storing) (start : Stored) (e : Entry) (others es : 
             (still_stored Mine s.setting p This progress h.stored set_is m_is)
             (λ still. still_settable Mine s.trying.loader.shard m token s.setting p This progress
             (h.settable (sets_open s.trying.next s.setting q))
-            set_is m_is))
+            set_is m_is) (subst LastOn n last))
         by (try q (t, m_is, n)) = subst On (sym n)
             (let call = call_false s e.call q call_is in
             let after : Storing = record { trying = t; setting = s.setting } in
             storing_on after (moves_same s.trying t This.reply tried m_is)
             (λ lt none. none_commits_on s.trying t start e others es sound.trying call client tried own_entry of out m_is lt none)
             (λ good. tried_none (replay_back start (others ++ es)) m token e s.trying t tried call out m_is good)
-            (stored_on (setting.set_so_far s.setting) h.stored) (settable_on q))
+            (stored_on (setting.set_so_far s.setting) h.stored) (settable_on q) (subst LastOn n last))
 
     -- and after want of memory
     pub storing_called : trying.IsScanning s.trying.next → On (called s)
@@ -309,3 +319,10 @@ module _ (client : ℕ) (s : Storing) (start : Stored) (e : Entry) (others es : 
         c.0.call_is in cc))
         (λ good. scan_none (replay_back start (others ++ es)) m token e s.trying (scan ∙ sym (scan_call s.trying idle)) idle)
         (stored_on (setting.set_so_far s.setting) h.stored) (settable_on (scans_first s.trying.next s.setting idle))
+        (λ lt. (
+          (λ c. absurd (let bad : scan_of s.trying.loader ≡ calls.Cas s.trying.loader.shard c.expected c.bytes = sym scan ∙
+              c.call_is in cc)),
+          last_on start s.trying.loader.shard s.trying.next nexts.Scan s.trying.tried s.trying.tried
+              (to_scan s.trying.next s.trying.tried idle)
+              (places client s.trying.calls es) (h.last lt),
+        ))

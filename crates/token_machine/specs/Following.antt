@@ -1,5 +1,5 @@
 -- What a client's own entries say of a member that spends tokens, and of parts and a transition under one. Entries go newest first.
-use Rattle.std.specs.Prelude.{⊤, ◌≡◌, ◌⊎◌, ℕ, ◌<◌, false, None, List, drop}
+use Rattle.std.specs.Prelude.{⊤, ◌≡◌, ◌⊎◌, ℕ, ◌+◌, ◌<◌, false, Option, Some, None, List, drop}
 use Rattle.std.specs.List.{AllByRecursion}
 use Rattle.store_core.specs.declared.shards.ShardId.{ShardId}
 use Rattle.store_core.specs.declared.calls.Call.{Call}
@@ -15,8 +15,10 @@ use Rattle.state_core.specs.Steps.{Stands}
 use Rattle.state_core.specs.VersionReading.{most}
 use Rattle.history_core.specs.Discipline.{IsCasUnder}
 use Rattle.history_core.specs.Members.{JoinedAs}
-use Rattle.history_core.specs.Placing.{places}
+use Rattle.history_core.specs.Placing.{Commits, Placed, places}
 use Rattle.history_core.specs.Spending.{own_commits}
+use Rattle.load_core.specs.declared.nexts.Next.{Next}
+use Rattle.load_core.specs.declared.nexts.Next.TheVariants as nexts
 use Rattle.load_core.specs.PartsFollowing.{IsSettable, IsStoredSoFar}
 use Rattle.load_core.specs.Runs.{AllCarry, NoneCommits}
 use Rattle.load_core.specs.Setting as setting
@@ -45,6 +47,15 @@ pub record Draws (kind : Kind) (shard : ShardId) (member token : ℕ) (own : Lis
   pub joined : JoinedAs kind own shard member
   pub drawn : (later : ℕ) → token < later → ¬ Among (λ o. UsesToken shard member later o.entry.call) own
 
+-- by what comes next, and the version for which the last Cas was: a Cas after this version was the last one, and a Scan follows it
+abbrev pub IsLastCas : Next → Option ℕ → Option ℕ → Type 0
+IsLastCas nexts.Scan tried (Some n) = tried ≡ Some (n + 1)
+IsLastCas _ _ _ = ⊥
+
+-- if the entry commits, it is the last Cas
+abbrev pub CommitsLast : Stored → ShardId → Next → Option ℕ → Placed → Type 0
+CommitsLast start shard next tried p = (c : Commits start shard p) → IsLastCas next tried c.expected
+
 -- Parts and a transition under a token: the parts were stored as far as they are set; until all are, no Cas was made under the token.
 -- The newest `calls` entries of the client are the command's: each Cas among them carries the transition and comes after a version,
 -- none committed it unless one failed, and no entry before them has a Cas under the token.
@@ -56,5 +67,8 @@ pub record FollowsStoring (client member token : ℕ) (s : Storing) (start : Sto
   pub carry : s.trying.calls < most → AllCarry s.trying client es
   pub after : s.trying.calls < most → AllByRecursion (λ p. IsAfter p.entry.call) (places client s.trying.calls es)
   pub none : s.trying.calls < most → NoneCommits s.trying client start es
+  -- only its last Cas can have committed, before the Scan that then comes
+  pub last : s.trying.calls < most →
+      AllByRecursion (CommitsLast start s.trying.loader.shard s.trying.next s.trying.tried) (places client s.trying.calls es)
   -- where no call of it failed, none of the client's entries has committed under the token
   pub unspent : s.trying.failed ≡ false → own_commits start s.trying.loader.shard client member token es ≡ 0

@@ -47,16 +47,20 @@ pub record StepAt (client : ℕ) (own : List Answered) (start : Stored) (shard :
   pub lawful : LawfulBack start (p.entry ∷ p.before)
   pub stored : (k : PartKey) (b : List ℕ) → StoredAs (mine_back start p.before client) k b → StoredAs own k b
 
+-- as this version
+abbrev pub StepAs : ℕ → List Answered → Stored → ShardId → Transition → ℕ → Placed → Type 0
+StepAs client own start shard step version p = (a : StepAt client own start shard step p) × (version ≡ a.number + 1)
+
 -- the command's entries, the one at this place the newest
 abbrev pub command_entries : ℕ → Storing → Entry → List Entry → List Placed
 command_entries client s e before = placed e before ∷ places client s.trying.calls before
 
--- all parts are set and were stored, and of the command's entries one alone commits, by the transition
-pub record IsInOnce (client : ℕ) (s : Storing) (start : Stored) (e : Entry) (before : List Entry) : Type 0 where
+-- all parts are set and were stored, and of the command's entries one alone commits, by the transition, as this version
+pub record IsInOnce (client : ℕ) (s : Storing) (start : Stored) (e : Entry) (before : List Entry) (version : ℕ) : Type 0 where
   pub done : setting.IsDone s.setting
   pub stored : IsStoredSoFar (mine_back start before client) s.setting
   pub once : s.trying.calls < most → OnlyOne (Commits start s.trying.loader.shard)
-      (StepAt client (mine_back start before client) start s.trying.loader.shard s.trying.step)
+      (StepAs client (mine_back start before client) start s.trying.loader.shard s.trying.step version)
       (command_entries client s e before)
 
 -- none of them commits
@@ -89,8 +93,8 @@ StoringMoves s start e before new tried = Moves s (reply (replay_back start befo
 -- where it is refused, by the last version's state at a Scan just answered in which the token isn't spent, none has. It is never
 -- strange, and never damaged.
 abbrev pub LegalStored : ℕ → ℕ → ℕ → Storing → Storing → Stored → Entry → List Entry → Came → Type 0
-LegalStored client member token s new start e before (storeds.Now version) = IsInOnce client s start e before
-LegalStored client member token s new start e before storeds.Before = IsInOnce client s start e before
+LegalStored client member token s new start e before (storeds.Now version) = IsInOnce client s start e before version
+LegalStored client member token s new start e before (storeds.Before version) = IsInOnce client s start e before version
 LegalStored client member token s new start e before (storeds.Refused refusal) =
     (n : Newest s.trying new.trying start e before (λ state. standing_refusal state s.trying.step ≡ Some refusal)) ×
     (¬ IsTokenOld refusal) × (Lower member token n.state → IsInNever client s start e before)

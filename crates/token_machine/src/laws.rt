@@ -8,13 +8,16 @@ ghost use Rattle.store_core.specs.declared.replies.Reply.{Reply};
 ghost use Rattle.store_core.specs.Newest.{mine_back};
 ghost use Rattle.store_core.specs.Ports.{Answered, OfOthers};
 ghost use Rattle.store_core.specs.Stores.{Stored};
+ghost use Rattle.spine_core.specs.declared.batches.Batch.{Batch};
 ghost use Rattle.state_core.specs.declared.kinds.Kind.{Kind};
 ghost use Rattle.state_core.specs.declared.transitions.Transition.{Transition};
+ghost use Rattle.state_core.specs.declared.transitions.Transition.TheVariants.{Merge};
 ghost use Rattle.state_core.specs.Lists.{Among};
 ghost use Rattle.state_core.specs.Steps.{AreKeys};
 ghost use Rattle.state_core.specs.VersionReading.{most};
 ghost use Rattle.history_core.specs.Discipline.{Allows, Holds, Owns};
 ghost use Rattle.history_core.specs.Placing.{places};
+ghost use Rattle.history_core.specs.Upkeep.{MergedAs};
 ghost use Rattle.load_core.specs.declared.settings.Setting.{Setting};
 ghost use Rattle.load_core.specs.declared.tries.Tried.{Tried};
 ghost use Rattle.load_core.specs.Costing.{CostAfter, CostEnded, CostKept, IsPrepared};
@@ -23,18 +26,27 @@ ghost use Rattle.load_core.specs.PartsFollowing.{IsSettable};
 ghost use Rattle.load_core.specs.Runs.{AllCarry, IsNotIn, NoneCommits};
 ghost use Rattle.load_core.specs.Setting as setting;
 ghost use Rattle.token_machine.specs.declared.storings.Storing.{Storing};
-ghost use Rattle.token_machine.specs.Following.{FollowsStoring, IsAfter, UsesToken};
-ghost use Rattle.token_machine.specs.Legality.{LegalStored, StoredEffect, StoresAt, StoringMoves};
-ghost use Rattle.token_machine.specs.Outcomes.{stored};
+ghost use Rattle.token_machine.specs.Following.{CommitsLast, FollowsStoring, IsAfter, UsesToken};
+ghost use Rattle.token_machine.specs.Legality.{LegalStored, StoredEffect, StoresAt, StoringMoves, command_entries};
+ghost use Rattle.token_machine.specs.Outcomes.{IsInAs, stored};
 ghost use Rattle.token_machine.specs.Storings.{IsSound, Moves, call_of, resumed};
 
 /// Over a lawful history each outcome means what it says, for a member of every kind and each transition that spends its token: where
-/// it is in, by this call or an earlier one that failed, exactly one entry of the command has committed, by it; where it is refused,
-/// and not for its token, none has; and it is never strange.
+/// it is in, by this call or an earlier one that failed, exactly one entry of the command has committed, by it, as the version that is
+/// told; where it is refused, and not for its token, none has; and it is never strange.
 pub fn storings_are_legal()
     ensures { (kind : Kind) (member token : ℕ) (s new : Storing) (client : ℕ) (list : List Update) (start : Stored) (e : Entry) (others es : List Entry)
         → StoresAt kind member token s client list start e others es → (tried : Tried) → StoringMoves s start e (others ++ es) new tried
-        → LegalStored client member token s new start e (others ++ es) (stored new.trying.failed token tried) }
+        → LegalStored client member token s new start e (others ++ es) (stored new.trying token tried) }
+{}
+
+/// So a merge that is in, now or before, may be answered as merged with the version that is told.
+pub fn merges_are_in()
+    ensures { (kind : Kind) (member token : ℕ) (s new : Storing) (client : ℕ) (list : List Update) (start : Stored) (e : Entry) (others es : List Entry)
+        → StoresAt kind member token s client list start e others es → (left right merged : Batch) → s.trying.step ≡ Merge member token left right merged
+        → (tried : Tried) → StoringMoves s start e (others ++ es) new tried → s.trying.calls < most → (version : ℕ)
+        → IsInAs (stored new.trying token tried) version
+        → Among (MergedAs start s.trying.loader.shard member token version) (command_entries client s e (others ++ es)) }
 {}
 
 /// The next call is one that the client may make, where a part that is left may be set, and where once all are set what the
@@ -53,7 +65,9 @@ pub fn storings_follow()
         → (¬ Among (λ o. UsesToken s.trying.loader.shard member token o.entry.call) (mine_back start es client))
         → (s.trying.calls < most → AllCarry s.trying client es)
         → (s.trying.calls < most → AllByRecursion (λ p. IsAfter p.entry.call) (places client s.trying.calls es))
-        → (s.trying.calls < most → NoneCommits s.trying client start es) → FollowsStoring client member token s start es }
+        → (s.trying.calls < most → NoneCommits s.trying client start es)
+        → (s.trying.calls < most → AllByRecursion (CommitsLast start s.trying.loader.shard s.trying.next s.trying.tried) (places client s.trying.calls es))
+        → FollowsStoring client member token s start es }
     ensures moved { (kind : Kind) (member token : ℕ) (s new : Storing) (client : ℕ) (list : List Update) (start : Stored) (e : Entry) (others es : List Entry)
         → StoresAt kind member token s client list start e others es → (tried : Tried) → IsNotIn tried → StoringMoves s start e (others ++ es) new tried
         → FollowsStoring client member token new start (e ∷ (others ++ es)) }
@@ -77,5 +91,5 @@ pub fn storing_costs_are_kept()
 /// nothing, unless it failed; and a command that isn't in now ends by what a Scan has just shown.
 pub fn storings_have_effects()
     ensures { (s new : Storing) (token : ℕ) (call : Call) (r : Reply) (tried : Tried) → IsSound s → call_of s ≡ Some call → Moves s r new tried
-        → StoredEffect s.trying.loader.shard s.trying.step call r (stored new.trying.failed token tried) }
+        → StoredEffect s.trying.loader.shard s.trying.step call r (stored new.trying token tried) }
 {}

@@ -14,8 +14,8 @@ pub enum Stored {
     Fault,
     /// The transition is in, as this version: the call that was just answered.
     Now { version: u64 },
-    /// The transition is in: the newest state has the token, and a call of the command has failed, which was the one.
-    Before,
+    /// The transition is in, as this version: the newest state has the token, and the last compare-and-set, which failed, was the one.
+    Before { version: u64 },
     /// The newest state has a token of the member that this command didn't spend.
     Strange,
     /// The newest state refuses the transition, but not for its token.
@@ -28,7 +28,7 @@ pub enum Stored {
 
 /// What a try under a token comes to.
 pub fn stored_of(trying: &Trying, token: u64, tried: Tried) -> Stored
-    ensures { result ≡ stored trying.now.failed token tried }
+    ensures { result ≡ stored trying.now token tried }
 {
     match tried {
         Tried::Committed { version } => Stored::Now { version },
@@ -41,12 +41,14 @@ pub fn stored_of(trying: &Trying, token: u64, tried: Tried) -> Stored
 }
 
 fn token_outcome(trying: &Trying, token: u64, refusal: Refusal) -> Stored
-    ensures { result ≡ token_outcome trying.now.failed token refusal }
+    ensures { result ≡ token_outcome trying.now token refusal }
 {
     match refusal {
         Refusal::TokenOld { last } => {
             if last == token && trying.failed {
-                Stored::Before
+                Stored::Before {
+                    version: trying.tried.unwrap_or(0),
+                }
             } else {
                 Stored::Strange
             }

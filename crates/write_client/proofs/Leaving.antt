@@ -34,7 +34,8 @@ spends_low w asked (closes m e named step none) member token lt h = let bad : Sp
     (λ (x : Transition). Spends x member token) step h in bad
 
 -- nor leaves a member, but for a close
-pub leaves_none : (w : Writer) (asked : Asked) → Asks w asked → ¬ IsClose (Some asked) → (member : ℕ) (s : ShardState) → ¬ LeavesIn
+pub leaves_none : (w : Writer) (asked : Asked) → Asks w asked → ¬ IsClose (Some asked) → (member : ℕ) (s : ShardState) →
+    ¬ LeavesIn
     (Some (s, w.storing.trying.step)) member
 leaves_none w asked (opens shard e of step none) open_one member s h = let bad : LeavesIn
     (Some (s, Join AsWriter 0 0)) member = subst (λ (x : Transition). LeavesIn (Some (s, x)) member) step h in bad
