@@ -171,43 +171,27 @@ module _ {Q A : Type 0} (W : Questions Q A) (L : IsQuestion W) (start : Stored) 
   counted_on = record { member = joined_stays; reading = still_staged c.stage refl }
 
   -- bytes that are got are those of a part
-  brings : (o : Option ShardState) (key : PartKey) → IsSomeAnd o (SinceGot W.kind client c start es) → IsSomeAnd o (IsGetting W c q) →
-      getting.key_of c.getting ≡ Some key → e.call ≡ calls.Get key → BringsBytes here
-  brings None key h g at call = absurd h
-  brings (Some k) key h g at call = by here refl
-    where
-      bytes : (b : List ℕ) → here ≡ replies.Bytes (Some b) → IsBytes b
-      bytes b r =
-          let shows = get_shows (replay_back start (others ++ es)) e key (Some b) call r in
-          let split : others ++ es ≡ (others ++ (h.since.later ++ (h.since.scan ∷ []))) ++ h.since.before =
-          ap (λ (x : List Entry). others ++ x) h.since.split ∙ behind_scan others h.since.later h.since.scan h.since.before in
-          let found = part_there start c.loader.shard list st k k.number (others ++ (h.since.later ++ (h.since.scan ∷ []))) h.since.before
-          (subst (LawfulBack start) split older) h.since.last key b (names_key W L c q k key g at)
-          (subst (λ (x : List Entry). (replay_back start x).blobs key ≡ Some b) split shows) in
-          (part_reads b found.1.0 found.1.1).bytes
-
-      by : (r : Reply) → here ≡ r → BringsBytes here
-      by (replies.Bytes (Some b)) r = subst BringsBytes (sym r) (bytes b r)
-      by (replies.Bytes None) r = subst BringsBytes (sym r) tt
-      by replies.Failed r = subst BringsBytes (sym r) tt
-      by (replies.Version v) r = subst BringsBytes (sym r) tt
-      by (replies.Versions vs) r = subst BringsBytes (sym r) tt
-      by (replies.Committed v) r = subst BringsBytes (sym r) tt
-      by replies.Mismatch r = subst BringsBytes (sym r) tt
-      by replies.Spent r = subst BringsBytes (sym r) tt
-      by replies.Truncated r = subst BringsBytes (sym r) tt
-      by replies.Stored r = subst BringsBytes (sym r) tt
-      by replies.Deleted r = subst BringsBytes (sym r) tt
+  brings : (o : Option ShardState) (key : PartKey) (b : List ℕ) → IsSomeAnd o (SinceGot W.kind client c start es) → IsSomeAnd o (IsGetting W c q) →
+      getting.key_of c.getting ≡ Some key → e.call ≡ calls.Get key → here ≡ replies.Bytes (Some b) → BringsBytes here
+  brings None key b h g at call r = absurd h
+  brings (Some k) key b h g at call r =
+      let shows = get_shows (replay_back start (others ++ es)) e key (Some b) call r in
+      let split : others ++ es ≡ (others ++ (h.since.later ++ (h.since.scan ∷ []))) ++ h.since.before =
+      ap (λ (x : List Entry). others ++ x) h.since.split ∙ behind_scan others h.since.later h.since.scan h.since.before in
+      let found = part_there start c.loader.shard list st k k.number (others ++ (h.since.later ++ (h.since.scan ∷ []))) h.since.before
+      (subst (LawfulBack start) split older) h.since.last key b (names_key W L c q k key g at)
+      (subst (λ (x : List Entry). (replay_back start x).blobs key ≡ Some b) split shows) in
+      subst BringsBytes (sym r) (part_reads b found.1.0 found.1.1).bytes
 
   -- with one more part, or none
   parts_on : (o : Option ShardState) (key : PartKey) (g : Getting) (fetched : Fetched) → IsSomeAnd o (SinceGot W.kind client c start es) →
-      IsSomeAnd o (IsGetting W c q) → getting.key_of c.getting ≡ Some key → e.call ≡ calls.Get key → getting.Moves c.getting here g fetched →
+      getting.key_of c.getting ≡ Some key → e.call ≡ calls.Get key → BringsBytes here → getting.Moves c.getting here g fetched →
       IsSomeAnd o (SinceGot W.kind client (record (counted c) { getting = g }) start now)
-  parts_on None key g fetched h k at call moves = absurd h
-  parts_on (Some k) key g fetched h reads at call moves =
+  parts_on None key g fetched h at call bytes moves = absurd h
+  parts_on (Some k) key g fetched h at call bytes moves =
       got_more W.kind start client e others es own of c (record (counted c) { getting = g }) k refl refl refl read (no_scan key call) h
       (still_got (mine_back (replay_back start (h.since.scan ∷ h.since.before)) h.since.later client) c.getting g (answered e here) fetched h.got
-      (ap (option_map (λ (x : PartKey). calls.Get x)) at ∙ ap Some (sym call)) (brings (Some k) key h reads at call) moves)
+      (ap (option_map (λ (x : PartKey). calls.Get x)) at ∙ ap Some (sym call)) bytes moves)
 
   missing_on : (o : Option ShardState) (key : PartKey) (g : Getting) → IsSomeAnd o (SinceGot W.kind client c start es) →
       (replay_back start (others ++ es)).blobs key ≡ None →
@@ -284,12 +268,12 @@ module _ {Q A : Type 0} (W : Questions Q A) (L : IsQuestion W) (start : Stored) 
         reading : IsSomeAnd c.loader.cached (IsGetting W c q)
         reading = at_stage W c q s stages.Get stage
 
-        goes_on : new ≡ record (counted c) { getting = g } → Goes new poll
-        goes_on n =
+        goes_on : BringsBytes here → new ≡ record (counted c) { getting = g } → Goes new poll
+        goes_on bytes n =
             let (key, at, call) = get_is stage in
             let z : Course = record (counted c) { getting = g } in
             let staged_now : FollowsStage W.kind client z start now stages.Get =
-            parts_on c.loader.cached key g fetched (staged_is stages.Get stage) reading at call moves in
+            parts_on c.loader.cached key g fetched (staged_is stages.Get stage) at call bytes moves in
             on z n shown_still
             (record { member = joined_stays; reading = subst (FollowsStage W.kind client z start now) (sym stage) staged_now })
 
@@ -297,10 +281,11 @@ module _ {Q A : Type 0} (W : Questions Q A) (L : IsQuestion W) (start : Stored) 
         ends p h is n = over c.loader p (ap (λ (x : Course). x.loader) n) shown_still h is
 
         go : HowGot c.getting here g fetched → Goes new poll
-        go (gains b part r read_is is (inl (x, left))) = goes_on (told fetches.More x).1
+        go (gains b part r read_is is (inl (x, left))) = let (key, at, call) = get_is stage in
+            goes_on (brings c.loader.cached key b (staged_is stages.Get stage) reading at call r) (told fetches.More x).1
         go (gains b part r read_is is (inr (x, done))) = let m = told fetches.Done x in
             ends (rows_poll W (counted c) q g.rows) (rows_ends W (counted c) q g.rows) m.0 m.1
-        go (fails r is x) = goes_on (told fetches.Fault x).1
+        go (fails r is x) = goes_on (subst BringsBytes (sym r) tt) (told fetches.Fault x).1
         go (misses key r at is x) =
             let z : Course = record (counted c) { getting = g; stage = stages.Check key } in
             let (key2, at2, call) = get_is stage in

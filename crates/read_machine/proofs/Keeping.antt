@@ -1,9 +1,11 @@
 -- What holds of a machine whose commands each ask a shard a question. Entries go newest first.
 use Rattle.std.proofs.Common.{◌≡◌, ◌≢◌, ◌+◌, ◌<◌, ◌≤◌, ◌^◌, ℕ, true, false, Option, Some, None, List, ◌∷◌, ◌++◌, length, inl, refl, sym, ap, subst, ◌∙◌, arith}
-use Rattle.std.specs.Prelude.{IfSome, IsSome, IsSomeAnd, filter}
+use Rattle.std.specs.Prelude.{⊤, IfSome, IsSome, IsSomeAnd, filter}
 use Rattle.update_core.specs.declared.updates.Update.{Update}
 use Rattle.store_core.specs.declared.shards.ShardId.{ShardId}
 use Rattle.store_core.specs.declared.calls.Call.{Call}
+use Rattle.store_core.specs.declared.calls.Call.TheVariants as calls
+use Rattle.store_core.specs.declared.versions.Version.{Version}
 use Rattle.store_core.specs.declared.entries.Entry.{Entry}
 use Rattle.store_core.specs.declared.replies.Reply.{Reply}
 use Rattle.store_core.specs.declared.replies.Reply.TheVariants as replies
@@ -20,7 +22,8 @@ use Rattle.history_core.specs.Placing.{places}
 use Rattle.history_core.proofs.Gaining.{mine_gained, mine_others}
 use Rattle.load_core.specs.declared.polls.Poll.{Poll}
 use Rattle.load_core.specs.declared.polls.Poll.TheVariants as polls
-use Rattle.load_core.specs.Effects.{CommitsNone}
+use Rattle.load_core.specs.Effects.{CommitsNone, IsShown}
+use Rattle.load_core.specs.Loading.{scan_from}
 use Rattle.load_core.specs.Following.{FollowsLoading}
 use Rattle.load_core.specs.Getting as getting
 use Rattle.load_core.specs.Trying.{more}
@@ -36,12 +39,12 @@ use Rattle.read_machine.specs.Questions.{IsQuestion, Questions}
 use Rattle.read_machine.specs.Readings.{Did, DidBy, Follows, IsGetting, IsReading as IsReadingAt, IsSound, Moves, MovesBy, ReadKept, ReadsOf, SoundBy, asked_after, kept, words}
 use Rattle.read_machine.proofs.Costs.{CostAfter, read_cost}
 use Rattle.read_machine.proofs.FollowsOn.{counted_on, read_on, shown_still}
-use Rattle.read_machine.proofs.HowRead.{HowRead, how_read}
+use Rattle.read_machine.proofs.HowRead.{HowRead, IsScanStage, how_read}
 use Rattle.read_machine.proofs.Legality.{LegalAfter, read_legal}
 use Rattle.read_machine.proofs.Parts.{Asks, asks_call, few_keys, gets, scans, some_parts}
 use Rattle.read_machine.proofs.Since.{asked_others}
 use Rattle.read_machine.proofs.Sound.{Ends, at_stage}
-use Rattle.read_machine.proofs.Ways.{Comes, Stays, again, comes, did, ends, goes, stays}
+use Rattle.read_machine.proofs.Ways.{Stays, did, stays}
 
 module _ {Q A : Type 0} (W : Questions Q A) where
   -- a command that is open and what a reply makes of it
@@ -91,33 +94,6 @@ module _ {Q A : Type 0} (W : Questions Q A) where
       go polls.Spent q h = refl
       go (polls.Damaged damage) q h = refl
       go (polls.Done a) q h = refl
-
-  busy_never : (m new : Reading Q) (r : Reply) → ¬ Moves W m r new polls.Busy
-  busy_never m new r moves = let x = read_so m new r polls.Busy moves in
-      no (comes W (counted m.course) x.q r x.course polls.Busy x.how)
-    where
-      no : Comes {A = A} r polls.Busy → ⊥
-      no (goes answer e) = let bad : ◌≡◌ {A = Poll A} polls.Busy polls.More = e in cc
-      no (again f e) = let bad : ◌≡◌ {A = Poll A} polls.Busy polls.Fault = e in cc
-      no (ends o) = o
-
-  failed_fault : (m new : Reading Q) (r : Reply) → Moves W m r new polls.Fault → r ≡ replies.Failed
-  failed_fault m new r moves = let x = read_so m new r polls.Fault moves in
-      so (comes W (counted m.course) x.q r x.course polls.Fault x.how)
-    where
-      so : Comes {A = A} r polls.Fault → r ≡ replies.Failed
-      so (goes answer e) = absurd (let bad : ◌≡◌ {A = Poll A} polls.Fault polls.More = e in cc)
-      so (again f e) = f
-      so (ends o) = absurd o
-
-  answered_more : (m new : Reading Q) (r : Reply) → Moves W m r new polls.More → r ≢ replies.Failed
-  answered_more m new r moves = let x = read_so m new r polls.More moves in
-      so (comes W (counted m.course) x.q r x.course polls.More x.how)
-    where
-      so : Comes {A = A} r polls.More → r ≢ replies.Failed
-      so (goes answer e) = answer
-      so (again f e) = absurd (let bad : ◌≡◌ {A = Poll A} polls.More polls.Fault = e in cc)
-      so (ends o) = absurd o
 
   -- ---- its call
 
@@ -301,15 +277,34 @@ module _ {Q A : Type 0} (W : Questions Q A) where
         by_stage q stages.Get h k = omega (arith, k, failed, sound.getting.within, few_read m.course q (mine_back start es client) follows.shown h)
         by_stage q (stages.Check key) h k = omega (arith, k, failed, few_read m.course q (mine_back start es client) follows.shown h.0)
 
+    -- what its call has done, where a Scan that is answered shows this
+    read_did : (m new : Reading Q) (r : Reply) (poll : Poll A) (Shown : Type 0) →
+        ((vs : List Version) → IsScanStage m.course.stage → r ≡ replies.Versions vs → Shown) → IsSound W m → Moves W m r new poll →
+        IsSomeAnd m.asked (λ q. DidBy W q Shown r poll)
+    read_did m new r poll Shown shown sound moves =
+        let x = read_so m new r poll moves in
+        subst (λ (o : Option Q). IsSomeAnd o (λ q. DidBy W q Shown r poll)) (sym x.asked)
+        (did W (counted m.course) x.q r x.course poll Shown shown (sound_by m x.q x.asked sound).known x.how)
+
+    did_so : (m new : Reading Q) (r : Reply) (poll : Poll A) (P : Type 0) → ((q : Q) → DidBy W q ⊤ r poll → P) → IsSound W m →
+        Moves W m r new poll → P
+    did_so m new r poll P h sound moves = go m.asked (read_did m new r poll ⊤ (λ vs st is. tt) sound moves)
+      where
+        go : (o : Option Q) → IsSomeAnd o (λ q. DidBy W q ⊤ r poll) → P
+        go None d = absurd d
+        go (Some q) d = h q d
+
     did_of : (m new : Reading Q) (call : Call) (r : Reply) (poll : Poll A) → IsSound W m → read_call m.course m.course.stage ≡ Some call →
         Moves W m r new poll → Did W (kept m) call r poll
-    did_of m new call r poll sound is moves =
-        let x = read_so m new r poll moves in
-        let d = did W (counted m.course) x.q r x.course poll call (same_call m.course m.course.stage ∙ is) (sound_by m x.q x.asked sound).known x.how in
-        record {
-          reads = reads_of m.course call is;
-          did = subst (λ (o : Option Q). IsSomeAnd o (λ q. DidBy W q m.course.loader.shard call r poll)) (sym x.asked) d;
-        }
+    did_of m new call r poll sound is moves = record {
+      reads = reads_of m.course call is;
+      did = read_did m new r poll (IsShown m.course.loader.shard call r) (λ vs st e. (scan_shown (asks_call m.course call is) st, (vs, e))) sound
+          moves;
+    }
+      where
+        scan_shown : Asks m.course call → IsScanStage m.course.stage → (from : ℕ) × (call ≡ calls.Scan m.course.loader.shard from)
+        scan_shown (scans st2 e) st = (scan_from m.course.loader.cached, e)
+        scan_shown (gets key st2 at e) st = absurd (subst IsScanStage st2 st)
 
     pub keeps : Keeps (words W)
     keeps = record {
@@ -328,9 +323,9 @@ module _ {Q A : Type 0} (W : Questions Q A) where
         asked = ap (λ (z : Reading Q). z.asked) (read_so m new r (polls.Done answer) moves).now;
         shard = (read_stays m new r (polls.Done answer) moves).shard;
       };
-      never_busy = λ m new r ready. busy_never m new r;
-      fault_failed = λ m new r ready. failed_fault m new r;
-      more_answered = λ m new r ready. answered_more m new r;
+      never_busy = λ m new r. did_so m new r polls.Busy ⊥ (λ q d. d);
+      fault_failed = λ m new r. did_so m new r polls.Fault (r ≡ replies.Failed) (λ q d. d);
+      more_answered = λ m new r. did_so m new r polls.More (r ≢ replies.Failed) (λ q d. d.answered);
       counted = λ m new r poll moves. (read_stays m new r poll moves).calls;
       effect = λ m new call r poll ready is call_is moves. did_of m new call r poll ready call_is moves;
       allowed = λ client m call start es a. call_allowed m.course call (mine_back start es client) a.call_is;
@@ -351,16 +346,16 @@ module _ {Q A : Type 0} (W : Questions Q A) where
 
     pub ending : Ending (words W)
     ending = record {
-      more_begins = λ k call r d. inl (none_more k.asked k.shard call r d.did);
-      spent_shown = λ k call r d. absurd (never_spent k.asked k.shard call r d.did);
+      more_begins = λ k call r d. inl (none_more k.asked (IsShown k.shard call r) r d.did);
+      spent_shown = λ k call r d. absurd (never_spent k.asked (IsShown k.shard call r) r d.did);
       few = λ client m start es list is sound follows low at failed foreign. let n =
           few_calls client m start es is sound follows (at low) failed in omega arith;
     }
       where
-        none_more : (o : Option Q) (shard : ShardId) (call : Call) (r : Reply) → IsSomeAnd o (λ q. DidBy W q shard call r polls.More) → CommitsNone r
-        none_more None shard call r h = absurd h
-        none_more (Some q) shard call r h = h
+        none_more : (o : Option Q) (Shown : Type 0) (r : Reply) → IsSomeAnd o (λ q. DidBy W q Shown r polls.More) → CommitsNone r
+        none_more None Shown r h = absurd h
+        none_more (Some q) Shown r h = h
 
-        never_spent : (o : Option Q) (shard : ShardId) (call : Call) (r : Reply) → IsSomeAnd o (λ q. DidBy W q shard call r polls.Spent) → ⊥
-        never_spent None shard call r h = h
-        never_spent (Some q) shard call r h = h
+        never_spent : (o : Option Q) (Shown : Type 0) (r : Reply) → IsSomeAnd o (λ q. DidBy W q Shown r polls.Spent) → ⊥
+        never_spent None Shown r h = h
+        never_spent (Some q) Shown r h = h

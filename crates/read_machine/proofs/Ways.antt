@@ -27,14 +27,6 @@ use Rattle.read_machine.proofs.HowRead.{HowGot, HowRead, IsScanStage, checked, d
 use Rattle.read_machine.proofs.Parts.{Asks, asks_call, gets, scans}
 use Rattle.read_machine.proofs.Sound.{Ends, HowSight, answers, empty, gone, how_sight, missing_ends, parts, rows_ends, strange}
 
--- ---- what it comes to
-
--- the command goes on after an answer, or after a failed call, or it ends
-pub data Comes {A : Type 0} (reply : Reply) (poll : Poll A) : Type 0 where
-  goes : reply ≢ replies.Failed → poll ≡ polls.More → Comes reply poll
-  again : reply ≡ replies.Failed → poll ≡ polls.Fault → Comes reply poll
-  ends : Ends poll → Comes reply poll
-
 -- the member, the shard and the count of calls are the same, and a state that was seen isn't forgotten
 pub record Stays (old new : Course) : Type 0 where
   pub member : new.member ≡ old.member
@@ -45,62 +37,21 @@ pub record Stays (old new : Course) : Type 0 where
 stays_at : (old z new : Course) → new ≡ z → Stays old z → Stays old new
 stays_at old z new is h = subst (Stays old) (sym is) h
 
-shown_answer : (reply : Reply) (vs : List Version) → reply ≡ replies.Versions vs → reply ≢ replies.Failed
-shown_answer reply vs is failed = let bad : replies.Versions vs ≡ replies.Failed = sym is ∙ failed in cc
-
-bytes_answer : (reply : Reply) (b : Option (List ℕ)) → reply ≡ replies.Bytes b → reply ≢ replies.Failed
-bytes_answer reply b is failed = let bad : replies.Bytes b ≡ replies.Failed = sym is ∙ failed in cc
-
 versions_none : (reply : Reply) (vs : List Version) → reply ≡ replies.Versions vs → CommitsNone reply
 versions_none reply vs is = record {
-  answered = shown_answer reply vs is;
+  answered = λ h. let bad : replies.Versions vs ≡ replies.Failed = sym is ∙ h in cc;
   none = λ version h. let bad : replies.Versions vs ≡ replies.Committed version = sym is ∙ h in cc;
 }
 
 bytes_none : (reply : Reply) (b : Option (List ℕ)) → reply ≡ replies.Bytes b → CommitsNone reply
 bytes_none reply b is = record {
-  answered = bytes_answer reply b is;
+  answered = λ h. let bad : replies.Bytes b ≡ replies.Failed = sym is ∙ h in cc;
   none = λ version h. let bad : replies.Bytes b ≡ replies.Committed version = sym is ∙ h in cc;
 }
 
 module _ {Q A : Type 0} (W : Questions Q A) (old : Course) (q : Q) (reply : Reply) (new : Course) (poll : Poll A) where
-  told : (p : Poll A) → poll ≡ p → Ends p → Comes reply poll
-  told p is h = ends (subst Ends (sym is) h)
-
   fetched : (g : Getting) (f f2 : Fetched) → f ≡ f2 → MovesByFetched W old q g f new poll → MovesByFetched W old q g f2 new poll
   fetched g f f2 is h = subst (λ (x : Fetched). MovesByFetched W old q g x new poll) is h
-
-  got_comes : (g : Getting) (f : Fetched) → HowGot old.getting reply g f → MovesByFetched W old q g f new poll → Comes reply poll
-  got_comes g f (gains b part r reads is (inl (x, left))) m = goes (bytes_answer reply (Some b) r) (fetched g f fetches.More x m).0
-  got_comes g f (gains b part r reads is (inr (x, done))) m = told (rows_poll W old q g.rows) (fetched g f fetches.Done x m).0
-      (rows_ends W old q g.rows)
-  got_comes g f (fails r is x) m = again r (fetched g f fetches.Fault x m).0
-  got_comes g f (misses key r at is x) m = goes (bytes_answer reply None r) (fetched g f (fetches.Missing key) x m).0
-  got_comes g f (spoilt b key fault r reads at is x) m = told (polls.Damaged (damages.Part key fault))
-      (fetched g f (fetches.Damaged (damages.Part key fault)) x m).0 tt
-  got_comes g f (heavy b part key r reads at w is x) m = told (polls.Damaged (damages.Weight key))
-      (fetched g f (fetches.Damaged (damages.Weight key)) x m).0 tt
-
-  look_comes : (k : ShardState) (vs : List Version) (sight : Sight A) → reply ≡ replies.Versions vs → HowSight W q k old.member sight →
-      poll ≡ sight_poll W (holding old k) q sight → Comes reply poll
-  look_comes k vs sight r how p = go how
-    where
-      says : (x : Sight A) → sight ≡ x → poll ≡ sight_poll W (holding old k) q x
-      says x is = p ∙ ap (sight_poll W (holding old k) q) is
-
-      go : HowSight W q k old.member sight → Comes reply poll
-      go (gone none is) = told (expired W (holding old k) q) (says sights.Gone is) tt
-      go (strange m at kind is) = told (sight_poll W (holding old k) q sights.Strange) (says sights.Strange is) tt
-      go (answers m a at look is) = told (polls.Done a) (says (sights.Answer a) is) tt
-      go (empty m at look is) = told (polls.Done (W.answer q k [])) (says (sights.Answer (W.answer q k [])) is) tt
-      go (parts m key keys at look is) = goes (shown_answer reply vs r) (says (sights.Parts (key ∷ keys)) is)
-
-  pub comes : HowRead W old q reply new poll → Comes reply poll
-  comes (unscanned st r p n) = again r p
-  comes (damaged vs damage st r e p n) = told (polls.Damaged damage) p tt
-  comes (scanned vs k st r e by) = look_comes k vs (sight_of W q k old.member) r (how_sight W q k old.member) by.0
-  comes (checked key vs k st r e p n) = told (missing_poll W (holding old k) q key) p (missing_ends W (holding old k) q key)
-  comes (got g f st m how by) = got_comes g f how by
 
   staged_stays : (k : ShardState) (sight : Sight A) → Stays old (staged (holding old k) sight)
   staged_stays k sights.Gone = record { member = refl; shard = refl; calls = refl; known = λ h. refl }
@@ -127,19 +78,13 @@ module _ {Q A : Type 0} (W : Questions Q A) (old : Course) (q : Q) (reply : Repl
 
   -- ---- what its call has done
 
-  module _ (call : Call) (call_is : read_call old old.stage ≡ Some call) (known : IsSome old.loader.cached) where
+  module _ (Shown : Type 0) (shown : (vs : List Version) → IsScanStage old.stage → reply ≡ replies.Versions vs → Shown)
+      (known : IsSome old.loader.cached) where
     abbrev Does : Poll A → Type 0
-    Does p = DidBy W q old.loader.shard call reply p
+    Does p = DidBy W q Shown reply p
 
     so : (p : Poll A) → poll ≡ p → Does p → Does poll
     so p is h = subst Does (sym is) h
-
-    shown : (vs : List Version) → IsScanStage old.stage → reply ≡ replies.Versions vs → IsShown old.loader.shard call reply
-    shown vs st r = by (asks_call old call call_is)
-      where
-        by : Asks old call → IsShown old.loader.shard call reply
-        by (scans st2 is) = ((scan_from old.loader.cached, is), (vs, r))
-        by (gets key st2 at is) = absurd (subst IsScanStage st2 st)
 
     look_did : (k : ShardState) (vs : List Version) (sight : Sight A) → IsScanStage old.stage → reply ≡ replies.Versions vs →
         HowSight W q k old.member sight → poll ≡ sight_poll W (holding old k) q sight → Does poll
@@ -166,7 +111,7 @@ module _ {Q A : Type 0} (W : Questions Q A) (old : Course) (q : Q) (reply : Repl
     got_did g f (gains b part r reads is (inl (x, left))) m = so polls.More (fetched g f fetches.More x m).0 (bytes_none reply (Some b) r)
     got_did g f (gains b part r reads is (inr (x, done))) m = so (rows_poll W old q g.rows) (fetched g f fetches.Done x m).0
         (rows_did g.rows (Some b) r)
-    got_did g f (fails r is x) m = so polls.Fault (fetched g f fetches.Fault x m).0 tt
+    got_did g f (fails r is x) m = so polls.Fault (fetched g f fetches.Fault x m).0 r
     got_did g f (misses key r at is x) m = so polls.More (fetched g f (fetches.Missing key) x m).0 (bytes_none reply None r)
     got_did g f (spoilt b key fault r reads at is x) m = so (polls.Damaged (damages.Part key fault))
         (fetched g f (fetches.Damaged (damages.Part key fault)) x m).0 tt
@@ -174,7 +119,7 @@ module _ {Q A : Type 0} (W : Questions Q A) (old : Course) (q : Q) (reply : Repl
         (fetched g f (fetches.Damaged (damages.Weight key)) x m).0 tt
 
     pub did : HowRead W old q reply new poll → Does poll
-    did (unscanned st r p n) = so polls.Fault p tt
+    did (unscanned st r p n) = so polls.Fault p r
     did (damaged vs damage st r e p n) = so (polls.Damaged damage) p tt
     did (scanned vs k st r e by) = look_did k vs (sight_of W q k old.member) (subst IsScanStage (sym st) tt) r (how_sight W q k old.member) by.0
     did (checked key vs k st r e p n) = so (missing_poll W (holding old k) q key) p

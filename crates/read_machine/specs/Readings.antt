@@ -5,6 +5,7 @@ use Rattle.store_core.specs.declared.shards.ShardId.{ShardId}
 use Rattle.store_core.specs.declared.calls.Call.{Call}
 use Rattle.store_core.specs.declared.calls.Call.TheVariants as calls
 use Rattle.store_core.specs.declared.replies.Reply.{Reply}
+use Rattle.store_core.specs.declared.replies.Reply.TheVariants as replies
 use Rattle.store_core.specs.declared.entries.Entry.{Entry}
 use Rattle.store_core.specs.Stores.{Stored}
 use Rattle.store_core.specs.Newest.{mine_back}
@@ -94,15 +95,16 @@ pub data CameBy {Q A : Type 0} (W : Questions Q A) (q : Q) (Shown : Type 0) (ans
   lapsed : (version : ℕ) → answer ≡ W.expired q version → Shown → CameBy W q Shown answer
 
 -- what its call has done, by what the poll comes to: it commits nothing
-abbrev pub DidBy : {Q A : Type 0} → Questions Q A → Q → ShardId → Call → Reply → Poll A → Type 0
-DidBy W q shard call r polls.More = CommitsNone r
-DidBy W q shard call r (polls.Done answer) = CommitsNone r × CameBy W q (IsShown shard call r) answer
-DidBy W q shard call r polls.Spent = ⊥
-DidBy W q shard call r _ = ⊤
+abbrev pub DidBy : {Q A : Type 0} → Questions Q A → Q → Type 0 → Reply → Poll A → Type 0
+DidBy W q Shown r polls.More = CommitsNone r
+DidBy W q Shown r polls.Fault = r ≡ replies.Failed
+DidBy W q Shown r (polls.Damaged damage) = ⊤
+DidBy W q Shown r (polls.Done answer) = CommitsNone r × CameBy W q Shown answer
+DidBy W q Shown r _ = ⊥
 
 pub record Did {Q A : Type 0} (W : Questions Q A) (k : ReadKept Q) (call : Call) (r : Reply) (poll : Poll A) : Type 0 where
   pub reads : ReadsOf k.shard call
-  pub did : IsSomeAnd k.asked (λ q. DidBy W q k.shard call r poll)
+  pub did : IsSomeAnd k.asked (λ q. DidBy W q (IsShown k.shard call r) r poll)
 
 pub record Follows {Q A : Type 0} (W : Questions Q A) (client : ℕ) (r : Reading Q) (start : Stored) (es : List Entry) : Type 0 where
   pub shown : FollowsLoading r.course.loader (mine_back start es client)

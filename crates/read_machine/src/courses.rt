@@ -4,8 +4,8 @@ ghost use Rattle.store_core.specs.Histories.{IsReplyTo};
 ghost use Rattle.change_core.specs.Changes.{is_gone};
 ghost use Rattle.load_core.specs.Getting as getting;
 ghost use Rattle.load_core.specs.Loading.{IsOf, scan_of};
-ghost use Rattle.read_machine.specs.Courses.{HasNext, LooksAt, MovesAfterCheck, MovesAfterGet, MovesAfterScan, MovesByStage, begun};
-ghost use Rattle.read_machine.specs.Courses.{counted, expired, missing_poll, read_call, rows_poll, look_sight, sight_of, sight_poll, staged, strange};
+ghost use Rattle.read_machine.specs.Courses.{Checks, ComesTo, HasNext, Looks, MovesAfterGet, MovesByStage, ScansTo, begun, counted, expired};
+ghost use Rattle.read_machine.specs.Courses.{look_sight, missing_poll, read_call, rows_poll, sight_of, sight_poll, staged, strange};
 
 use crate::looks::Look;
 use crate::questions::Question;
@@ -104,7 +104,7 @@ impl Course {
         requires known { IsSome self.old.loader.cached }
         requires getting { getting.IsSound self.old.getting }
         requires row { IsReplyTo (scan_of self.old.loader) reply }
-        ensures moves { IfOk result (λ poll. MovesAfterScan Q.question self.old question.now reply self.new poll) }
+        ensures moves { IfOk result (λ poll. ScansTo self.old (Looks Q.question self.old question.now) reply self.new poll) }
         ensures sound { getting.IsSound self.new.getting }
         ensures memory { OnErr result (self.new ≡ self.old) }
     {
@@ -125,7 +125,7 @@ impl Course {
     ) -> Result<Poll<Q::Answer>, AllocError>
         requires shard { IsOf self.old.loader.shard state }
         requires getting { getting.IsSound self.old.getting }
-        ensures moves { IfOk result (λ poll. LooksAt Q.question self.old question.now (Ok (Some state)) self.new poll) }
+        ensures moves { IfOk result (λ poll. Looks Q.question self.old question.now state self.new poll) }
         ensures sound { getting.IsSound self.new.getting }
         ensures memory { OnErr result (self.new ≡ self.old) }
     {
@@ -142,7 +142,7 @@ impl Course {
     ) -> Result<Poll<Q::Answer>, AllocError>
         requires known { IsSome self.old.loader.cached }
         requires getting { getting.IsSound self.old.getting }
-        ensures moves { IfOk result (λ poll. LooksAt Q.question self.old question.now (Ok self.old.loader.cached) self.new poll) }
+        ensures moves { IfOk result (λ poll. ComesTo self.old (Looks Q.question self.old question.now) (Ok self.old.loader.cached) self.new poll) }
         ensures sound { getting.IsSound self.new.getting }
         ensures memory { OnErr result (self.new ≡ self.old) }
     {
@@ -246,7 +246,7 @@ impl Course {
         requires known { IsSome self.old.loader.cached }
         requires getting { getting.IsSound self.old.getting }
         requires row { IsReplyTo (scan_of self.old.loader) reply }
-        ensures moves { IfOk result (λ poll. MovesAfterCheck Q.question self.old question.now key reply self.new poll) }
+        ensures moves { IfOk result (λ poll. ScansTo self.old (Checks Q.question self.old question.now key) reply self.new poll) }
         ensures sound { getting.IsSound self.new.getting }
         ensures memory { OnErr result (self.new ≡ self.old) }
     {
