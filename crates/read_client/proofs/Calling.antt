@@ -30,7 +30,6 @@ use Rattle.load_core.proofs.Firsts.{tried_first}
 use Rattle.load_core.proofs.Following.{tried_allowed}
 use Rattle.load_core.proofs.Replied.{tried_failed}
 use Rattle.load_core.proofs.TryFacts.{tried_carries, tried_fault}
-use Rattle.read_machine.specs.Readings.{ReadsOf}
 use Rattle.read_machine.proofs.Sound.{Ends}
 use Rattle.read_client.specs.declared.questions.Question.{Question}
 use Rattle.read_client.specs.declared.questions.Question.TheVariants as questions
@@ -95,25 +94,6 @@ try_more old new reply m = go (comes old new reply polls.More m)
 pub tries_call : (r : Reader) (call : Call) → question r ≡ None → call_of r ≡ Some call → call ≡ trying.call_of r.trying
 tries_call r call none e = let f : Some (trying.call_of r.trying) ≡ Some call =
     subst (λ (q : Option Question). call_by r q ≡ Some call) none e in cc
-
--- a Scan or a Get of the shard carries nothing, and makes no first version
-pub reads_carry : (shard : ShardId) (step : Transition) (call : Call) → ReadsOf shard call → OnlyCarries shard step call
-reads_carry shard step (calls.Scan at from) h = tt
-reads_carry shard step (calls.Get key) h = tt
-reads_carry shard step (calls.Head at) h = absurd h
-reads_carry shard step (calls.Cas at expected bytes) h = absurd h
-reads_carry shard step (calls.Truncate at below) h = absurd h
-reads_carry shard step (calls.Set key bytes) h = absurd h
-reads_carry shard step (calls.Delete key) h = absurd h
-
-pub reads_first : (P : Type 0) (shard : ShardId) (call : Call) → ReadsOf shard call → MakesFirst P shard call
-reads_first P shard (calls.Scan at from) h = tt
-reads_first P shard (calls.Get key) h = tt
-reads_first P shard (calls.Head at) h = absurd h
-reads_first P shard (calls.Cas at expected bytes) h = absurd h
-reads_first P shard (calls.Truncate at below) h = absurd h
-reads_first P shard (calls.Set key bytes) h = absurd h
-reads_first P shard (calls.Delete key) h = absurd h
 
 pub try_carries : (r : Reader) (call : Call) → IsSound r → question r ≡ None → call_of r ≡ Some call → OnlyCarries (shard_of r) r.trying.step call
 try_carries r call s none e = subst (OnlyCarries (shard_of r) r.trying.step) (sym (tries_call r call none e)) (tried_carries r.trying s.trying)

@@ -35,7 +35,8 @@ use Rattle.read_client.specs.Asking.{question_of}
 use Rattle.read_client.specs.Following.{Follows}
 use Rattle.read_client.specs.Reading.{AsksAs, IsSound, MovesAfterTry, call_by, call_of, change_poll, own_member, question, shard_of}
 use Rattle.read_client.proofs.Changing.{Changed, opens, advances, renews, closes, changed, changed_at}
-use Rattle.read_client.proofs.LegalPolls.{LegalOf, LegalPoll, after_calls, legal_poll}
+use Rattle.read_client.proofs.LegalPolls.{LegalOf, LegalPoll, legal_poll}
+use Rattle.read_client.proofs.Sound.{kept_trying}
 
 -- ---- what the outcomes mean
 
@@ -180,7 +181,7 @@ change_legal client r new poll list start e others es sound f own call of st law
     let asks : AsksAs (shard_of r) r.member r.trying.step r.listen asked =
     subst (λ (o : Option Asked). IfSome o (λ a. AsksAs (shard_of r) r.member r.trying.step r.listen a)) is sound.asked in
     let none2 : question_of (Some asked) r.listen ≡ None = subst (λ (o : Option Asked). question_of o r.listen ≡ None) is none in
-    let counts : new.trying.calls ≡ t.calls = ap (λ (x : Reader). x.trying.calls) now ∙ after_calls (record r { trying = t }) poll in
+    let counts : new.trying.calls ≡ t.calls = ap (λ (x : Reader). x.trying.calls) now ∙ ap (λ (x : Trying). x.calls) (kept_trying (record r { trying = t }) poll) in
     legal_poll client r list start e others es t.calls new asked poll counts is
     (subst (LegalOf client r list start e others es t.calls asked) (sym told)
     (changed_legal client r list start e others es sound f own made of st lawful t tried moves asked (changed r asked none2 asks)))

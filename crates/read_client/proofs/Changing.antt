@@ -19,16 +19,12 @@ use Rattle.history_core.specs.Stands.{StandsFor}
 use Rattle.load_core.specs.Trying as trying
 use Rattle.change_core.specs.Changes.{IsChange, IsOfMember}
 use Rattle.change_core.specs.Legality.{ChangesAt}
+use Rattle.read_machine.proofs.Legality.{some_is}
 use Rattle.read_client.specs.declared.questions.Question.TheVariants as questions
 use Rattle.read_client.specs.declared.readers.Reader.{Reader}
 use Rattle.read_client.specs.Asking.{question_of, step_question}
 use Rattle.read_client.specs.Following.{Follows}
 use Rattle.read_client.specs.Reading.{AsksAs, IsSound, own_member, shard_of}
-
--- the value that is there
-pub some_is : {A : Type 0} (P : A → Type 0) (o : Option A) → IsSomeAnd o P → (x : A) × (o ≡ Some x) × P x
-some_is P None h = absurd h
-some_is P (Some x) h = (x, refl, h)
 
 pub is_there : {A : Type 0} (o : Option A) → IsSome o → (x : A) × (o ≡ Some x)
 is_there None h = absurd (let bad : false ≡ true = h in cc)

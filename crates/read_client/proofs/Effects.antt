@@ -15,6 +15,8 @@ use Rattle.load_core.specs.declared.tries.Tried.{Tried}
 use Rattle.load_core.specs.declared.tries.Tried.TheVariants as tries
 use Rattle.load_core.specs.declared.tryings.Trying.{Trying}
 use Rattle.load_core.specs.Effects.{CommitsNone, CommitsStep, IsShown}
+use Rattle.load_core.specs.Firsts.{MakesFirst}
+use Rattle.load_core.specs.Runs.{OnlyCarries}
 use Rattle.load_core.specs.Trying as trying
 use Rattle.load_core.proofs.Replied.{IsStop, stop_shown}
 use Rattle.load_core.proofs.Runs.{moves_same}
@@ -25,13 +27,14 @@ use Rattle.change_core.specs.Legality.{ChangeEffect}
 use Rattle.change_core.proofs.Coming.{change_effect}
 use Rattle.change_core.proofs.Forms.{committed_as}
 use Rattle.read_machine.specs.Readings as readings
+use Rattle.read_machine.proofs.Keeping.{of_reads}
 use Rattle.read_client.specs.declared.questions.Question.{Question}
 use Rattle.read_client.specs.declared.readers.Reader.{Reader}
 use Rattle.read_client.specs.Asking.{asking}
-use Rattle.read_client.specs.Machining.{Did, kept}
+use Rattle.read_client.specs.Machining.{Did, Opens, kept}
 use Rattle.read_client.specs.Polling.{Effect, IsRefusal}
 use Rattle.read_client.specs.Reading.{IsOpen, IsSound, Moves, MovesBy, call_by, call_of, change_poll, gone_answer, in_answer, own_member, question, reading_on, shard_of, taken_back, verdict}
-use Rattle.read_client.proofs.Calling.{reads_carry, reads_first, tries_call, try_carries, try_first}
+use Rattle.read_client.proofs.Calling.{tries_call, try_carries, try_first}
 use Rattle.read_client.proofs.Questioning.{IsReadAnswer, came_reads, came_shown, read_keeps}
 use Rattle.read_client.proofs.Sound.{kept_trying, lent_by}
 
@@ -99,15 +102,15 @@ module _ (shard : ShardId) (tried_step : Transition) (call : Call) (reply : Repl
   read_did (answers.Renewed version) h n = absurd h
   read_did (answers.Closed version) h n = absurd h
 
-  pub question_did : (o : Option Question) (at : ShardId) (poll : Poll ReadAnswer) →
-      IsSomeAnd o (λ q. readings.DidBy asking q at call reply poll) → Commits poll
-  question_did None at poll h = absurd h
-  question_did (Some q) at polls.Busy h = tt
-  question_did (Some q) at polls.More h = inl h
-  question_did (Some q) at polls.Fault h = tt
-  question_did (Some q) at polls.Spent h = tt
-  question_did (Some q) at (polls.Damaged damage) h = tt
-  question_did (Some q) at (polls.Done answer) h = read_did answer (came_reads (Some q) at call reply answer h) h.0
+  pub question_did : (o : Option Question) (Shown : Type 0) (poll : Poll ReadAnswer) →
+      IsSomeAnd o (λ q. readings.DidBy asking q Shown reply poll) → Commits poll
+  question_did None Shown poll h = absurd h
+  question_did (Some q) Shown polls.Busy h = tt
+  question_did (Some q) Shown polls.More h = inl h
+  question_did (Some q) Shown polls.Fault h = tt
+  question_did (Some q) Shown polls.Spent h = tt
+  question_did (Some q) Shown (polls.Damaged damage) h = tt
+  question_did (Some q) Shown (polls.Done answer) h = read_did answer (came_reads (Some q) Shown reply answer h) h.0
 
 -- ---- what is shown
 
@@ -154,9 +157,9 @@ did_of r new call reply poll s is_open call_is moves = go (question r) refl move
         made m in
         let reads : readings.ReadsOf (shard_of r) call = subst (λ (x : ShardId). readings.ReadsOf x call) lent.shard d.reads in
         record {
-          carries = reads_carry (shard_of r) r.trying.step call reads;
-          first = reads_first _ (shard_of r) call reads;
+          carries = of_reads (OnlyCarries (shard_of r) r.trying.step) (shard_of r) call (λ from. tt) (λ key. tt) reads;
+          first = of_reads (MakesFirst (Opens r.asked) (shard_of r)) (shard_of r) call (λ from. tt) (λ key. tt) reads;
           shown = λ refused. subst (λ (x : ShardId). IsShown x call reply) lent.shard
-              (came_shown r.reading.asked r.reading.course.loader.shard call reply poll d.did refused);
-          effect = question_did (shard_of r) r.trying.step call reply r.reading.asked r.reading.course.loader.shard poll d.did;
+              (came_shown r.reading.asked (IsShown r.reading.course.loader.shard call reply) reply poll d.did refused);
+          effect = question_did (shard_of r) r.trying.step call reply r.reading.asked (IsShown r.reading.course.loader.shard call reply) poll d.did;
         }

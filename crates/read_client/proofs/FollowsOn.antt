@@ -32,6 +32,7 @@ use Rattle.load_core.specs.declared.polls.Poll.TheVariants as polls
 use Rattle.load_core.specs.declared.tries.Tried.{Tried}
 use Rattle.load_core.specs.declared.tries.Tried.TheVariants as tries
 use Rattle.load_core.specs.declared.tryings.Trying.{Trying}
+use Rattle.load_core.specs.Effects.{IsShown}
 use Rattle.load_core.specs.Following.{FollowsTrying}
 use Rattle.load_core.specs.Outcomes.{Committing}
 use Rattle.load_core.specs.Trying as trying
@@ -312,9 +313,9 @@ module _ (start : Stored) (list : List Update) (client : ℕ) (ready : Reader) (
             polls.Done answer ≡ polls.Done (answers.Opened joined version since) → ⊥
         no_open answer p joined version since h =
             let same : answer ≡ answers.Opened joined version since = cc in
-            let answered_so : IsReadAnswer answer = came_reads ready.reading.asked (readings.kept ready.reading).shard e.call here answer
-            (subst (λ (y : Poll ReadAnswer). IsSomeAnd ready.reading.asked (λ x. readings.DidBy asking x
-            (readings.kept ready.reading).shard e.call here y)) p did.did) in
+            let answered_so : IsReadAnswer answer = came_reads ready.reading.asked (IsShown (readings.kept ready.reading).shard e.call here) here
+            answer (subst (λ (y : Poll ReadAnswer). IsSomeAnd ready.reading.asked (λ x. readings.DidBy asking x
+            (IsShown (readings.kept ready.reading).shard e.call here) here y)) p did.did) in
             subst IsReadAnswer same answered_so
 
         by : (p : Poll ReadAnswer) → poll ≡ p → Follows client (after_poll (taken_back (reading_on ready w) p) p) start (e ∷ (others ++ es))

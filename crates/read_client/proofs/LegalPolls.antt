@@ -17,15 +17,6 @@ use Rattle.read_client.specs.Machining.{command_in, kept, machine}
 use Rattle.read_client.specs.Polling.{ReadsParts}
 use Rattle.read_client.specs.Reading.{after_poll, shard_of}
 
--- the machine goes on with the calls that it has counted
-pub after_calls : (r : Reader) (poll : Poll ReadAnswer) → (after_poll r poll).trying.calls ≡ r.trying.calls
-after_calls r polls.Busy = refl
-after_calls r polls.More = refl
-after_calls r polls.Fault = refl
-after_calls r (polls.Damaged damage) = refl
-after_calls r polls.Spent = refl
-after_calls r (polls.Done answer) = refl
-
 -- what a poll of a reader comes to is legal
 abbrev pub LegalPoll : ℕ → Reader → Reader → Poll ReadAnswer → Stored → List Entry → List Update → Type 0
 LegalPoll client r new poll start es list = machines.LegalPoll machine client (kept r) new.trying.calls poll start es list

@@ -1,7 +1,8 @@
 -- What holds of a machine whose commands each ask a shard a question. Entries go newest first.
-use Rattle.std.proofs.Common.{◌≡◌, ◌≢◌, ◌+◌, ◌<◌, ◌≤◌, ◌^◌, ℕ, true, false, Option, Some, None, List, ◌∷◌, ◌++◌, length, inl, refl, sym, ap, subst, ◌∙◌, arith}
+use Rattle.std.proofs.Common.{◌≡◌, ◌≢◌, ◌+◌, ◌<◌, ◌≤◌, ◌^◌, ℕ, true, false, Option, Some, None, List, ◌∷◌, ◌++◌, length, inl, inr, refl, sym, ap, subst, ◌∙◌, arith}
 use Rattle.std.specs.Prelude.{⊤, IfSome, IsSome, IsSomeAnd, filter}
 use Rattle.update_core.specs.declared.updates.Update.{Update}
+use Rattle.store_core.specs.declared.part_keys.PartKey.{PartKey}
 use Rattle.store_core.specs.declared.shards.ShardId.{ShardId}
 use Rattle.store_core.specs.declared.calls.Call.{Call}
 use Rattle.store_core.specs.declared.calls.Call.TheVariants as calls
@@ -45,6 +46,12 @@ use Rattle.read_machine.proofs.Parts.{Asks, asks_call, few_keys, gets, scans, so
 use Rattle.read_machine.proofs.Since.{asked_others}
 use Rattle.read_machine.proofs.Sound.{Ends, at_stage}
 use Rattle.read_machine.proofs.Ways.{Stays, did, stays}
+
+-- what holds of each Scan of the shard and of each Get
+pub of_reads : (P : Call → Type 0) (shard : ShardId) (call : Call) → ((from : ℕ) → P (calls.Scan shard from)) →
+    ((key : PartKey) → P (calls.Get key)) → ReadsOf shard call → P call
+of_reads P shard call scan get (inl (from, is)) = subst P (sym is) (scan from)
+of_reads P shard call scan get (inr (key, is)) = subst P (sym is) (get key)
 
 module _ {Q A : Type 0} (W : Questions Q A) where
   -- a command that is open and what a reply makes of it
@@ -101,22 +108,8 @@ module _ {Q A : Type 0} (W : Questions Q A) where
   reads_of c call is = by (asks_call c call is)
     where
       by : Asks c call → ReadsOf c.loader.shard call
-      by (scans st e) = subst (ReadsOf c.loader.shard) (sym e) refl
-      by (gets key st at e) = subst (ReadsOf c.loader.shard) (sym e) tt
-
-  is_reading : (c : Course) (call : Call) → read_call c c.stage ≡ Some call → IsReading call
-  is_reading c call is = by (asks_call c call is)
-    where
-      by : Asks c call → IsReading call
-      by (scans st e) = subst IsReading (sym e) tt
-      by (gets key st at e) = subst IsReading (sym e) tt
-
-  call_allowed : (c : Course) (call : Call) (own : List Answered) → read_call c c.stage ≡ Some call → Allows own call
-  call_allowed c call own is = by (asks_call c call is)
-    where
-      by : Asks c call → Allows own call
-      by (scans st e) = subst (Allows own) (sym e) tt
-      by (gets key st at e) = subst (Allows own) (sym e) tt
+      by (scans st e) = inl (scan_from c.loader.cached, e)
+      by (gets key st at e) = inr (key, e)
 
   same_call : (c : Course) (stage : Stage) → read_call (counted c) stage ≡ read_call c stage
   same_call c stages.Scan = refl
@@ -328,7 +321,8 @@ module _ {Q A : Type 0} (W : Questions Q A) where
       more_answered = λ m new r. did_so m new r polls.More (r ≢ replies.Failed) (λ q d. d.answered);
       counted = λ m new r poll moves. (read_stays m new r poll moves).calls;
       effect = λ m new call r poll ready is call_is moves. did_of m new call r poll ready call_is moves;
-      allowed = λ client m call start es a. call_allowed m.course call (mine_back start es client) a.call_is;
+      allowed = λ client m call start es a. of_reads (Allows (mine_back start es client)) m.course.loader.shard call (λ from. tt) (λ key. tt)
+          (reads_of m.course call a.call_is);
       follows = λ client m new call poll list start e others es a c moves. moved_follows L client m call list start e others es a c new poll
           moves;
       legal = λ client m new call poll list start e others es a c moves. moved_legal L client m call list start e others es a c new poll moves;
@@ -338,7 +332,7 @@ module _ {Q A : Type 0} (W : Questions Q A) where
       wanted_counted = λ m new h. ap (λ (z : Reading Q). z.course.calls) h;
       wanted_open = λ m new h is. subst (λ (z : Reading Q). IsSome z.asked) (sym h) is;
       wanted_reads = λ m new call ready h is. (
-        is_reading m.course call is,
+        of_reads IsReading m.course.loader.shard call (λ from. tt) (λ key. tt) (reads_of m.course call is),
         ap (λ (z : Reading Q). read_call z.course z.course.stage) h ∙ same_call m.course m.course.stage ∙ is,
       );
       wanted_follows = λ client m new call list start e others es a c h. wanted_follows L client m call list start e others es a c new h;

@@ -69,7 +69,7 @@ use Rattle.read_machine.proofs.Stretch.{replay_behind}
 use Rattle.read_machine.proofs.Undamaged.{got_light, got_reads, last_then, part_reads}
 
 -- the value that is there
-some_is : {T : Type 0} (P : T → Type 0) (o : Option T) → IsSomeAnd o P → (x : T) × (o ≡ Some x) × P x
+pub some_is : {T : Type 0} (P : T → Type 0) (o : Option T) → IsSomeAnd o P → (x : T) × (o ≡ Some x) × P x
 some_is P None h = absurd h
 some_is P (Some x) h = (x, refl, h)
 

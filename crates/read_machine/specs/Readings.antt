@@ -1,6 +1,7 @@
 -- A machine whose commands each ask a shard a question. Entries go newest first.
-use Rattle.std.specs.Prelude.{⊤, ◌≡◌, ℕ, ◌<◌, Option, Some, None, IsSome, IfSome, IsSomeAnd, List}
+use Rattle.std.specs.Prelude.{⊤, ◌≡◌, ◌⊎◌, ℕ, ◌<◌, Option, Some, None, IsSome, IfSome, IsSomeAnd, List}
 use Rattle.update_core.specs.declared.updates.Update.{Update}
+use Rattle.store_core.specs.declared.part_keys.PartKey.{PartKey}
 use Rattle.store_core.specs.declared.shards.ShardId.{ShardId}
 use Rattle.store_core.specs.declared.calls.Call.{Call}
 use Rattle.store_core.specs.declared.calls.Call.TheVariants as calls
@@ -84,9 +85,7 @@ kept r = record { asked = r.asked; member = r.course.member; shard = r.course.lo
 
 -- a Scan of the shard, or a Get
 abbrev pub ReadsOf : ShardId → Call → Type 0
-ReadsOf shard (calls.Scan at from) = at ≡ shard
-ReadsOf shard (calls.Get key) = ⊤
-ReadsOf shard _ = ⊥
+ReadsOf shard call = ((from : ℕ) × (call ≡ calls.Scan shard from)) ⊎ ((key : PartKey) × (call ≡ calls.Get key))
 
 -- where an answer comes from: a Scan that showed a state that says it, the rows of parts, or a Scan that showed no such member
 pub data CameBy {Q A : Type 0} (W : Questions Q A) (q : Q) (Shown : Type 0) (answer : A) : Type 0 where
