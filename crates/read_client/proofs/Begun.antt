@@ -30,13 +30,10 @@ use Rattle.read_client.specs.Beginning.{BeginsRead, Changing}
 use Rattle.read_client.specs.Following.{Follows, FollowsWhere}
 use Rattle.read_client.specs.Polling.{CostAt, CostBy}
 use Rattle.read_client.specs.Reading.{opened, own_member, shard_of, unknown}
+use Rattle.read_client.proofs.Sound.{if_any}
 
 abbrev FollowsThere : ℕ → Reader → Stored → List Entry → List Update → Type 0
 FollowsThere client r start es list = Follows client r start es
-
-if_any : (q : Option Question) (P : Type 0) → P → IfSome q (λ x. P)
-if_any None P p = tt
-if_any (Some q) P p = p
 
 -- ---- the open
 

@@ -1,10 +1,8 @@
 -- Which polls come of a reply, and which call a reader makes.
 use Rattle.std.proofs.Common.{◌≡◌, ◌≢◌, ℕ, true, false, Option, Some, None, List, refl, sym, subst}
-use Rattle.std.specs.Prelude.{IsSome, IfSome, IsSomeAnd}
+use Rattle.std.specs.Prelude.{⊤, IsSome, IfSome, IsSomeAnd}
 use Rattle.update_core.specs.Frontiers.{after}
-use Rattle.store_core.specs.declared.shards.ShardId.{ShardId}
 use Rattle.store_core.specs.declared.calls.Call.{Call}
-use Rattle.store_core.specs.declared.calls.Call.TheVariants as calls
 use Rattle.store_core.specs.declared.replies.Reply.{Reply}
 use Rattle.store_core.specs.declared.replies.Reply.TheVariants as replies
 use Rattle.store_core.specs.Ports.{Answered}
@@ -42,51 +40,38 @@ use Rattle.read_client.proofs.Sound.{committed_ends, refused_ends}
 -- ---- which polls come of a reply to a transition
 
 -- not Busy, and Fault only of a reply that failed
-data Comes (reply : Reply) (poll : Poll ReadAnswer) : Type 0 where
-  more : reply ≢ replies.Failed → poll ≡ polls.More → Comes reply poll
-  fault : reply ≡ replies.Failed → poll ≡ polls.Fault → Comes reply poll
-  ends : Ends poll → Comes reply poll
+abbrev ComesBy : Reply → Poll ReadAnswer → Type 0
+ComesBy reply polls.Busy = ⊥
+ComesBy reply polls.More = reply ≢ replies.Failed
+ComesBy reply polls.Fault = reply ≡ replies.Failed
+ComesBy reply _ = ⊤
 
-comes : (old new : Reader) (reply : Reply) (poll : Poll ReadAnswer) → MovesAfterTry old reply new poll → Comes reply poll
-comes old new reply poll (t, tried, asked, m, asked_is, poll_is, new_is) = go tried m poll_is
+ends_so : (reply : Reply) (poll : Poll ReadAnswer) → Ends poll → ComesBy reply poll
+ends_so reply polls.Busy over = over
+ends_so reply polls.More over = absurd over
+ends_so reply polls.Fault over = absurd over
+ends_so reply polls.Spent over = tt
+ends_so reply (polls.Damaged damage) over = tt
+ends_so reply (polls.Done answer) over = tt
+
+pub try_comes : (old new : Reader) (reply : Reply) (poll : Poll ReadAnswer) → MovesAfterTry old reply new poll → ComesBy reply poll
+try_comes old new reply poll (t, tried, asked, m, asked_is, poll_is, new_is) = subst (ComesBy reply) (sym poll_is) (go tried m)
   where
     -- a failed call comes to a fault
     no : (k : Tried) → trying.Moves old.trying reply t k → (k ≡ tries.Fault → ⊥) → reply ≢ replies.Failed
     no k moves other failed = other (tried_failed old.trying t k (subst (λ (r : Reply). trying.Moves old.trying r t k) failed moves))
 
-    go : (k : Tried) → trying.Moves old.trying reply t k → poll ≡ verdict (record old { trying = t }) asked k → Comes reply poll
-    go tries.Begun moves e = more (no tries.Begun moves (λ is. let bad : tries.Begun ≡ tries.Fault = is in cc)) e
-    go tries.Again moves e = more (no tries.Again moves (λ is. let bad : tries.Again ≡ tries.Fault = is in cc)) e
-    go tries.Goes moves e = more (no tries.Goes moves (λ is. let bad : tries.Goes ≡ tries.Fault = is in cc)) e
-    go tries.Fault moves e = fault (tried_fault old.trying t reply moves) e
-    go (tries.Committed version) moves e = ends (subst Ends (sym e) (committed_ends (record old { trying = t }) asked version))
-    go (tries.Refused refusal) moves e = ends (subst Ends (sym e) (refused_ends (record old { trying = t }) asked refusal))
-    go tries.Spent moves e = ends (subst Ends (sym e) tt)
-    go (tries.Damaged damage) moves e = ends (subst Ends (sym e) tt)
-
-pub try_busy : (old new : Reader) (reply : Reply) → ¬ MovesAfterTry old reply new polls.Busy
-try_busy old new reply m = no (comes old new reply polls.Busy m)
-  where
-    no : Comes reply polls.Busy → ⊥
-    no (more a e) = let bad : polls.Busy ≡ polls.More = e in cc
-    no (fault f e) = let bad : polls.Busy ≡ polls.Fault = e in cc
-    no (ends o) = o
-
-pub try_fault : (old new : Reader) (reply : Reply) → MovesAfterTry old reply new polls.Fault → reply ≡ replies.Failed
-try_fault old new reply m = go (comes old new reply polls.Fault m)
-  where
-    go : Comes reply polls.Fault → reply ≡ replies.Failed
-    go (more a e) = absurd (let bad : polls.Fault ≡ polls.More = e in cc)
-    go (fault f e) = f
-    go (ends o) = absurd o
-
-pub try_more : (old new : Reader) (reply : Reply) → MovesAfterTry old reply new polls.More → reply ≢ replies.Failed
-try_more old new reply m = go (comes old new reply polls.More m)
-  where
-    go : Comes reply polls.More → reply ≢ replies.Failed
-    go (more a e) = a
-    go (fault f e) = absurd (let bad : polls.More ≡ polls.Fault = e in cc)
-    go (ends o) = absurd o
+    go : (k : Tried) → trying.Moves old.trying reply t k → ComesBy reply (verdict (record old { trying = t }) asked k)
+    go tries.Begun moves = no tries.Begun moves (λ is. let bad : tries.Begun ≡ tries.Fault = is in cc)
+    go tries.Again moves = no tries.Again moves (λ is. let bad : tries.Again ≡ tries.Fault = is in cc)
+    go tries.Goes moves = no tries.Goes moves (λ is. let bad : tries.Goes ≡ tries.Fault = is in cc)
+    go tries.Fault moves = tried_fault old.trying t reply moves
+    go (tries.Committed version) moves = ends_so reply (verdict (record old { trying = t }) asked (tries.Committed version))
+        (committed_ends (record old { trying = t }) asked version)
+    go (tries.Refused refusal) moves = ends_so reply (verdict (record old { trying = t }) asked (tries.Refused refusal))
+        (refused_ends (record old { trying = t }) asked refusal)
+    go tries.Spent moves = tt
+    go (tries.Damaged damage) moves = tt
 
 -- ---- its call
 

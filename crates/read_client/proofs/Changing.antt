@@ -1,6 +1,6 @@
 -- A reader's open, close, renewal and advance are changes of its member. Entries go newest first.
 use Rattle.std.proofs.Common.{◌≡◌, ℕ, true, false, Option, Some, None, List, ◌∷◌, ◌++◌, refl, sym, ap, subst, ◌∙◌}
-use Rattle.std.specs.Prelude.{IfSome, IsSome, IsSomeAnd, unwrap_or}
+use Rattle.std.specs.Prelude.{IfSome, IsSome, unwrap_or}
 use Rattle.update_core.specs.declared.updates.Update.{Update}
 use Rattle.update_core.specs.Frontiers.{after}
 use Rattle.store_core.specs.declared.entries.Entry.{Entry}

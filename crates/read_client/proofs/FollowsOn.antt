@@ -53,7 +53,7 @@ use Rattle.read_client.specs.Following.{Follows}
 use Rattle.read_client.specs.Reading.{AsksAs, IsAsked, IsLent, IsOpen, IsSound, Moves, MovesAfterRead, MovesAfterTry, MovesBy, Wants, WantsBy, after_poll, call_by, call_of, change_poll, gone_answer, given_back, own_member, question, reading_on, shard_of, taken_back, verdict}
 use Rattle.read_client.proofs.Changing.{Changed, opens, advances, renews, closes, changed}
 use Rattle.read_client.proofs.Questioning.{came_reads, IsReadAnswer, read_keeps}
-use Rattle.read_client.proofs.Sound.{kept_trying, lent_by}
+use Rattle.read_client.proofs.Sound.{if_any, kept_trying, lent_by}
 
 -- ---- after a poll
 
@@ -111,10 +111,6 @@ gone_opens _ version = refl
 refused_opens : (r : Reader) (asked : Asked) (refusal : Refusal) → opened_of (verdict r asked (tries.Refused refusal)) ≡ None
 refused_opens r asked refusal = refused_as (λ o. opened_of (change_poll r asked o) ≡ None) r.trying.loader.cached (own_member r) r.trying.step refusal refl
     (λ v. refl) (λ v. gone_opens asked v) (λ v. refl) (λ v. refl)
-
-if_any : (q : Option Question) (P : Type 0) → P → IfSome q (λ x. P)
-if_any None P p = tt
-if_any (Some q) P p = p
 
 -- a Join gives the next number
 next_of : (from to : ShardState) (now lease : ℕ) → Applies from (Join AsReader now lease) to → to.next_member ≡ from.next_member + 1

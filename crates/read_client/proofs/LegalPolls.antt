@@ -1,5 +1,5 @@
 -- What a poll of a reader comes to is legal, taken apart by what was asked. Entries go newest first.
-use Rattle.std.proofs.Common.{◌≡◌, ℕ, ◌<◌, Option, Some, List, ◌∷◌, ◌++◌, refl, sym, subst}
+use Rattle.std.proofs.Common.{◌≡◌, ℕ, ◌<◌, Option, Some, List, ◌∷◌, ◌++◌, sym, subst}
 use Rattle.std.specs.Prelude.{⊤, IfSome}
 use Rattle.update_core.specs.declared.updates.Update.{Update}
 use Rattle.store_core.specs.declared.entries.Entry.{Entry}
@@ -15,7 +15,7 @@ use Rattle.machine_core.specs.Machines as machines
 use Rattle.read_client.specs.declared.readers.Reader.{Reader}
 use Rattle.read_client.specs.Machining.{command_in, kept, machine}
 use Rattle.read_client.specs.Polling.{ReadsParts}
-use Rattle.read_client.specs.Reading.{after_poll, shard_of}
+use Rattle.read_client.specs.Reading.{shard_of}
 
 -- what a poll of a reader comes to is legal
 abbrev pub LegalPoll : ℕ → Reader → Reader → Poll ReadAnswer → Stored → List Entry → List Update → Type 0

@@ -22,12 +22,13 @@ use Rattle.machine_core.specs.Machines.{Asking, CostPoll, Ending, GoesOn, IsRead
 use Rattle.read_machine.specs.declared.readings.Reading.{Reading}
 use Rattle.read_machine.specs.Courses.{counted}
 use Rattle.read_machine.specs.Readings as readings
+use Rattle.read_machine.proofs.Keeping.{none_open}
 use Rattle.read_client.specs.declared.questions.Question.{Question}
 use Rattle.read_client.specs.declared.readers.Reader.{Reader}
 use Rattle.read_client.specs.Asking.{asking}
 use Rattle.read_client.specs.Machining.{Ended, Kept, kept, machine}
 use Rattle.read_client.specs.Reading.{IsOpen, IsSound, Moves, MovesBy, Prepares, Wants, WantsBy, after_poll, call_by, call_of, question, reading_on, shard_of, taken_back}
-use Rattle.read_client.proofs.Calling.{tries_call, try_allowed, try_busy, try_fault, try_more}
+use Rattle.read_client.proofs.Calling.{tries_call, try_allowed, try_comes}
 use Rattle.read_client.proofs.Costs.{cost_poll, few_calls}
 use Rattle.read_client.proofs.Effects.{counted_more, did_of}
 use Rattle.read_client.proofs.FollowsOn.{moved_on, wants_on}
@@ -36,10 +37,6 @@ use Rattle.read_client.proofs.Preparing.{cost_prepared, next_of, over_prepared, 
 use Rattle.read_client.proofs.Questioning.{read_keeps}
 use Rattle.read_client.proofs.Sound.{kept_trying}
 use Rattle.read_client.proofs.Waiting.{follows_spared, others_on}
-
-none_open : (o : Option Asked) → ¬ IsSome o → o ≡ None
-none_open None closed = refl
-none_open (Some a) closed = absurd (closed refl)
 
 pub not_open : (o : Option Asked) → o ≡ None → ¬ IsSome o
 not_open o e is = let bad : false ≡ true =
@@ -123,21 +120,21 @@ busy_never : (r new : Reader) (reply : Reply) → IsSound r → ¬ Moves r reply
 busy_never r new reply s m = go (question r) m
   where
     go : (o : Option Question) → ¬ MovesBy o r reply new polls.Busy
-    go None h = try_busy r new reply h
+    go None h = try_comes r new reply polls.Busy h
     go (Some q) (w, moves, at, now) = read_keeps.never_busy r.reading w reply s.reading moves
 
 failed_fault : (r new : Reader) (reply : Reply) → IsSound r → Moves r reply new polls.Fault → reply ≡ replies.Failed
 failed_fault r new reply s m = go (question r) m
   where
     go : (o : Option Question) → MovesBy o r reply new polls.Fault → reply ≡ replies.Failed
-    go None h = try_fault r new reply h
+    go None h = try_comes r new reply polls.Fault h
     go (Some q) (w, moves, at, now) = read_keeps.fault_failed r.reading w reply s.reading moves
 
 answered_more : (r new : Reader) (reply : Reply) → IsSound r → Moves r reply new polls.More → reply ≢ replies.Failed
 answered_more r new reply s m = go (question r) m
   where
     go : (o : Option Question) → MovesBy o r reply new polls.More → reply ≢ replies.Failed
-    go None h = try_more r new reply h
+    go None h = try_comes r new reply polls.More h
     go (Some q) (w, moves, at, now) = read_keeps.more_answered r.reading w reply s.reading moves
 
 -- the client may make its call

@@ -9,7 +9,6 @@ use Rattle.update_core.specs.Frontiers.{frontier_cmp}
 use Rattle.update_core.specs.Updates.{slice_of, sum_of}
 use Rattle.store_core.specs.declared.part_keys.PartKey.{PartKey}
 use Rattle.store_core.specs.declared.shards.ShardId.{ShardId}
-use Rattle.store_core.specs.declared.calls.Call.{Call}
 use Rattle.store_core.specs.declared.replies.Reply.{Reply}
 use Rattle.store_core.specs.declared.entries.Entry.{Entry}
 use Rattle.store_core.specs.Stores.{Stored}
@@ -26,7 +25,6 @@ use Rattle.history_core.specs.Placing.{GotSinceScan, Placed}
 use Rattle.history_core.specs.Stands.{accepted}
 use Rattle.load_core.specs.declared.polls.Poll.{Poll}
 use Rattle.load_core.specs.declared.polls.Poll.TheVariants as polls
-use Rattle.load_core.specs.Effects.{IsShown}
 use Rattle.change_core.proofs.Members.{found_stands}
 use Rattle.machine_core.specs.Machines.{Ending, Keeps}
 use Rattle.read_machine.specs.declared.looks.Look.{Look}

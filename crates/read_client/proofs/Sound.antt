@@ -1,5 +1,5 @@
 -- A reader is sound after its next call is prepared and after what a reply comes to.
-use Rattle.std.proofs.Common.{◌≡◌, ℕ, Bool, true, false, Option, Some, None, Result, ◌⊎◌, inl, inr, refl, sym, ap, subst, ◌∙◌}
+use Rattle.std.proofs.Common.{◌≡◌, ℕ, true, false, Option, Some, None, Result, ◌⊎◌, inl, inr, refl, sym, ap, subst, ◌∙◌}
 use Rattle.std.specs.Prelude.{⊤, IsSome, IfSome}
 use Rattle.store_core.specs.declared.shards.ShardId.{ShardId}
 use Rattle.store_core.specs.declared.replies.Reply.{Reply}
@@ -91,9 +91,9 @@ kept_reading r (polls.Damaged damage) = refl
 kept_reading r polls.Spent = refl
 kept_reading r (polls.Done answer) = refl
 
-if_known : (m : Option ℕ) (P : Type 0) → P → IfSome m (λ member. P)
-if_known None P p = tt
-if_known (Some member) P p = p
+pub if_any : {T : Type 0} (o : Option T) (P : Type 0) → P → IfSome o (λ x. P)
+if_any None P p = tt
+if_any (Some x) P p = p
 
 pub ended_sound : (mid : Reader) (poll : Poll ReadAnswer) → Ends poll → trying.IsSound mid.trying → readings.IsSound asking mid.reading →
     mid.reading.asked ≡ None → IfSome mid.member (λ member. IsSome mid.trying.loader.cached) →
@@ -110,17 +110,9 @@ ended_sound mid (polls.Done answer) ends t g none known some idle = record {
   asked = tt;
   asks = none;
   lent = tt;
-  known = λ e. if_known (after_poll mid (polls.Done answer)).member (IsSome mid.trying.loader.cached) (some answer refl);
+  known = λ e. if_any (after_poll mid (polls.Done answer)).member (IsSome mid.trying.loader.cached) (some answer refl);
   rests = λ e. idle;
 }
-
--- damage is no answer
-abbrev is_done : Poll ReadAnswer → Bool
-is_done (polls.Done answer) = true
-is_done _ = false
-
-no_answer : (damage : Damage) (answer : ReadAnswer) (p : Poll ReadAnswer) → p ≡ polls.Damaged damage → p ≡ polls.Done answer → ⊥
-no_answer damage answer p e f = let bad : false ≡ true = sym (ap is_done e) ∙ ap is_done f in cc
 
 pub committed_ends : (r : Reader) (asked : Asked) (version : ℕ) → Ends (verdict r asked (tries.Committed version))
 committed_ends r asked version = committed_as (λ o. Ends (change_poll r asked o)) r.trying.loader.cached r.trying.step version tt tt
@@ -218,7 +210,7 @@ try_sound old new reply poll is_open s sound none (t, tried, asked, moves, asked
     by (tries.Committed version) e = over (tries.Committed version) e tt (λ answer h. cached (tries.Committed version) e tt (λ damage f. let bad : tries.Committed version ≡ tries.Damaged damage = f in cc))
     by (tries.Refused refusal) e = over (tries.Refused refusal) e tt (λ answer h. cached (tries.Refused refusal) e tt (λ damage f. let bad : tries.Refused refusal ≡ tries.Damaged damage = f in cc))
     by tries.Spent e = over tries.Spent e tt (λ answer h. cached tries.Spent e tt (λ damage f. let bad : tries.Spent ≡ tries.Damaged damage = f in cc))
-    by (tries.Damaged damage) e = over (tries.Damaged damage) e tt (λ answer h. absurd (no_answer damage answer (polls.Damaged damage) refl h))
+    by (tries.Damaged damage) e = over (tries.Damaged damage) e tt (λ answer h. absurd (let bad : polls.Damaged damage ≡ polls.Done answer = h in cc))
 
 -- ---- a question
 
@@ -271,7 +263,7 @@ read_sound old new q reply poll is_open s ask g (w, moves, shard, e) = subst IsS
     over p is ends held = ended_sound (given_back (reading_on old w)) p ends
         (idle_sound (given_back (reading_on old w)).trying old.trying.next lent.idle refl) held
         (ended_none asking old.reading w reply poll moves (subst Ends (sym is) ends))
-        (if_known old.member (IsSome w.course.loader.cached) some) (λ answer h. some) lent.idle
+        (if_any old.member (IsSome w.course.loader.cached) some) (λ answer h. some) lent.idle
 
     by : (p : Poll ReadAnswer) → poll ≡ p → IsSound (after_poll (taken_back (reading_on old w) p) p)
     by polls.Busy is = goes polls.Busy is tt (g_of polls.Busy is)

@@ -35,13 +35,11 @@ use Rattle.read_machine.specs.Courses.{GoesBy, MovesByFetched, counted, holding,
 use Rattle.read_machine.specs.Following.{OverStage, ReadCost}
 use Rattle.read_machine.specs.Questions.{Questions}
 use Rattle.read_machine.proofs.HowRead.{HowGot, HowRead, checked, damaged, fails, gains, got, heavy, misses, scanned, spoilt, unscanned}
+use Rattle.read_machine.proofs.Places.{next_count}
 use Rattle.read_machine.proofs.Parts.{Asks, scans, gets, asks_call}
 use Rattle.read_machine.proofs.Sound.{Ends, HowSight, answers, empty, gone, how_sight, missing_ends, parts, rows_ends, strange}
 
-one_call : (n m : ℕ) → m ≡ more n → m < most → m ≡ suc n
-one_call n m h lt = omega arith
-
-less : (a : ℕ) → more a < most → a < most
+pub less : (a : ℕ) → more a < most → a < most
 less a lt = omega arith
 
 failed_scan : (store : Stored) (shard : ShardId) (from : ℕ) (o : Outcome) → reply_by store (calls.Scan shard from) o ≡ replies.Failed → faults_of o ≡ 1
@@ -95,7 +93,7 @@ module _ {Q A : Type 0} (W : Questions Q A) (client : ℕ) (c : Course) (q : Q) 
 
   counts : (new : Course) → new.calls ≡ more c.calls → new.calls < most → Counts new
   counts new h lt =
-      let one = one_call c.calls new.calls h lt in
+      let one = next_count c.calls new.calls h lt in
       record {
         one = one;
         failures_are = subst (λ (m : ℕ). failed_calls client m now ≡ faults_of e.outcome + failures) (sym one)

@@ -47,6 +47,10 @@ use Rattle.read_machine.proofs.Since.{asked_others}
 use Rattle.read_machine.proofs.Sound.{Ends, at_stage}
 use Rattle.read_machine.proofs.Ways.{Stays, did, stays}
 
+pub none_open : {T : Type 0} (o : Option T) → ¬ IsSome o → o ≡ None
+none_open None closed = refl
+none_open (Some a) closed = absurd (closed refl)
+
 -- what holds of each Scan of the shard and of each Get
 pub of_reads : (P : Call → Type 0) (shard : ShardId) (call : Call) → ((from : ℕ) → P (calls.Scan shard from)) →
     ((key : PartKey) → P (calls.Get key)) → ReadsOf shard call → P call
@@ -125,10 +129,6 @@ module _ {Q A : Type 0} (W : Questions Q A) where
 
   pub sound_by : (m : Reading Q) (q : Q) → m.asked ≡ Some q → IsSound W m → SoundBy W m.course q
   sound_by m q is s = let h = s.asked in subst (λ (o : Option Q). IfSome o (SoundBy W m.course)) is h
-
-  none_open : (o : Option Q) → ¬ IsSome o → o ≡ None
-  none_open None closed = refl
-  none_open (Some a) closed = absurd (closed refl)
 
   -- ---- entries
 

@@ -1,9 +1,8 @@
 -- What the code of a reading needs of its words.
-use Rattle.std.proofs.Common.{◌≡◌, true, false, Option, Some, None, Result, Ok, Err, List, refl, sym, ap, subst, ◌∙◌}
+use Rattle.std.proofs.Common.{◌≡◌, true, false, Option, Some, None, Result, Ok, Err, refl, sym, ap, subst, ◌∙◌}
 use Rattle.std.specs.Prelude.{IsSome, IfOk}
 use Rattle.std.specs.declared.alloc.AllocError.{AllocError}
 use Rattle.store_core.specs.declared.part_keys.PartKey.{PartKey}
-use Rattle.store_core.specs.declared.versions.Version.{Version}
 use Rattle.store_core.specs.declared.replies.Reply.{Reply}
 use Rattle.store_core.specs.declared.replies.Reply.TheVariants as replies
 use Rattle.state_core.specs.States.{ShardState}
@@ -11,7 +10,7 @@ use Rattle.load_core.specs.declared.damages.Damage.{Damage}
 use Rattle.load_core.specs.declared.polls.Poll.{Poll}
 use Rattle.load_core.specs.declared.sights.Seen.{Seen}
 use Rattle.load_core.specs.declared.sights.Seen.TheVariants as seen
-use Rattle.load_core.specs.Loading.{Loading, Shows, newest_after}
+use Rattle.load_core.specs.Loading.{Shows}
 use Rattle.load_core.proofs.Newest.{newest_or, or_before}
 use Rattle.read_machine.specs.declared.courses.Course.{Course}
 use Rattle.read_machine.specs.Courses.{Checks, ComesTo, Looks, ScansTo, holding, missing_poll}

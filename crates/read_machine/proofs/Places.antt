@@ -1,5 +1,5 @@
 -- Where the calls of a reading stand in a history. Entries go newest first.
-use Rattle.std.proofs.Common.{◌≡◌, ℕ, zero, suc, ◌+◌, ◌<◌, true, false, None, List, [], ◌∷◌, ◌++◌, inl, inr, sym, ap, subst, ◌∙◌, arith, eqb}
+use Rattle.std.proofs.Common.{◌≡◌, ℕ, zero, suc, ◌+◌, ◌<◌, true, false, None, List, [], ◌∷◌, ◌++◌, ◌⊎◌, inl, inr, sym, ap, subst, ◌∙◌, arith, eqb}
 use Rattle.std.specs.Prelude.{reverse}
 use Rattle.std.proofs.lemmas.Bool.{eq-eqb, eqb-true}
 use Rattle.std.proofs.lemmas.List.{reverse-append, reverse-reverse}
@@ -22,7 +22,7 @@ use Rattle.history_core.specs.Answers.{own_of, own_past}
 use Rattle.history_core.specs.Discipline.{GotAs, IsGot, IsJoin, Lawful, LawfulBack, Owns}
 use Rattle.history_core.specs.Laws.{LastIs}
 use Rattle.history_core.specs.Members.{IsKindJoin, JoinedAs}
-use Rattle.history_core.specs.Placing.{AtLastScan, GotSinceScan, IsAnsweredScan, Placed, placed, places}
+use Rattle.history_core.specs.Placing.{AtLastScan, IsAnsweredScan, Placed, placed, places, reply_at}
 use Rattle.history_core.specs.Stands.{StandsFor}
 use Rattle.history_core.specs.StretchLaws.{NoCasOf}
 use Rattle.history_core.proofs.Holding.{missing_law}
@@ -58,26 +58,24 @@ at_last client (suc n) shard (x ∷ xs) scan before P quiet few own answered p =
       rw e (at_last client (suc n) shard xs scan before P quiet.1 few2 own answered p)
 ]
 
--- and bytes that it got since the Scan were got since the last answered Scan
-pub got_since : (client n : ℕ) (start : Stored) (shard : ShardId) (k : PartKey) (b : List ℕ) (later : List Entry) (scan : Entry) (before : List Entry) →
-    NoScanOf client shard later → own_count client later < n →
-    GotAs (mine_back (replay_back start (scan ∷ before)) later client) k b → GotSinceScan start shard k (places client n (later ++ (scan ∷ before)))
-got_since client zero start shard k b later scan before quiet few got = absurd (omega arith)
-got_since client (suc n) start shard k b [] scan before quiet few got = absurd got
-got_since client (suc n) start shard k b (x ∷ xs) scan before quiet few got = elim (bool_cases (eqb x.client client)) [
+-- What the client got since the Scan was got since the last answered Scan: with how X goes on past an entry that is no answered Scan.
+pub since_got : (client n : ℕ) (start : Stored) (shard : ShardId) (k : PartKey) (b : List ℕ) (X : List Placed → Type 0) →
+    ((p : Placed) (ps : List Placed) → ¬ IsAnsweredScan shard p → IsGot k b p.entry.call (reply_at start p) ⊎ X ps → X (p ∷ ps)) →
+    (later : List Entry) (scan : Entry) (before : List Entry) → NoScanOf client shard later → own_count client later < n →
+    GotAs (mine_back (replay_back start (scan ∷ before)) later client) k b → X (places client n (later ++ (scan ∷ before)))
+since_got client zero start shard k b X on later scan before quiet few got = absurd (omega arith)
+since_got client (suc n) start shard k b X on [] scan before quiet few got = absurd got
+since_got client (suc n) start shard k b X on (x ∷ xs) scan before quiet few got = elim (bool_cases (eqb x.client client)) [
   | inl e ↦
       let few2 : own_count client xs + 1 < suc n = rw e at few in
       let got2 = rw e at got in
-      rw e (
-        quiet.0 (eqb-true x.client client e),
-        elim got2 [
-          | inl here ↦ inl (b, subst (λ (s : Stored). IsGot k b x.call (reply s x)) (sym (replay_behind start xs (scan ∷ before))) here)
-          | inr older ↦ inr (got_since client n start shard k b xs scan before quiet.1 (omega arith) older)
-        ],
-      )
+      rw e (on (placed x (xs ++ (scan ∷ before))) (places client n (xs ++ (scan ∷ before))) (quiet.0 (eqb-true x.client client e)) (elim got2 [
+        | inl here ↦ inl (subst (λ (s : Stored). IsGot k b x.call (reply s x)) (sym (replay_behind start xs (scan ∷ before))) here)
+        | inr older ↦ inr (since_got client n start shard k b X on xs scan before quiet.1 (omega arith) older)
+      ]))
   | inr e ↦
       let few2 : own_count client xs < suc n = rw e at few in
-      rw e (got_since client (suc n) start shard k b xs scan before quiet.1 few2 (rw e at got))
+      rw e (since_got client (suc n) start shard k b X on xs scan before quiet.1 few2 (rw e at got))
 ]
 
 -- ---- laws of histories, with the newest entry first

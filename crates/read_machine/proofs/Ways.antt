@@ -1,7 +1,6 @@
 -- What a reply to a reading comes to, and what its call has done.
-use Rattle.std.proofs.Common.{◌≡◌, ◌≢◌, ℕ, true, false, Option, Some, None, List, [], ◌∷◌, inl, inr, refl, sym, ap, subst, ◌∙◌}
+use Rattle.std.proofs.Common.{◌≡◌, ℕ, true, false, Option, Some, None, List, [], ◌∷◌, inl, inr, refl, sym, ap, subst, ◌∙◌}
 use Rattle.std.specs.Prelude.{IsSome}
-use Rattle.store_core.specs.declared.calls.Call.{Call}
 use Rattle.store_core.specs.declared.replies.Reply.{Reply}
 use Rattle.store_core.specs.declared.replies.Reply.TheVariants as replies
 use Rattle.store_core.specs.declared.versions.Version.{Version}
@@ -13,19 +12,17 @@ use Rattle.load_core.specs.declared.fetches.Fetched.TheVariants as fetches
 use Rattle.load_core.specs.declared.gettings.Getting.{Getting}
 use Rattle.load_core.specs.declared.polls.Poll.{Poll}
 use Rattle.load_core.specs.declared.polls.Poll.TheVariants as polls
-use Rattle.load_core.specs.Effects.{CommitsNone, IsShown}
-use Rattle.load_core.specs.Loading.{scan_from}
+use Rattle.load_core.specs.Effects.{CommitsNone}
 use Rattle.change_core.specs.Changes.{is_gone, number_of}
 use Rattle.read_machine.specs.declared.courses.Course.{Course}
 use Rattle.read_machine.specs.declared.sights.Sight.{Sight}
 use Rattle.read_machine.specs.declared.sights.Sight.TheVariants as sights
 use Rattle.read_machine.specs.declared.stages.Stage.TheVariants as stages
-use Rattle.read_machine.specs.Courses.{MovesByFetched, expired, holding, missing_poll, read_call, rows_by, rows_poll, sight_of, sight_poll, staged}
+use Rattle.read_machine.specs.Courses.{MovesByFetched, holding, missing_poll, rows_by, rows_poll, sight_of, sight_poll, staged}
 use Rattle.read_machine.specs.Questions.{Questions}
 use Rattle.read_machine.specs.Readings.{DidBy, lapsed, looked, read}
 use Rattle.read_machine.proofs.HowRead.{HowGot, HowRead, IsScanStage, checked, damaged, fails, gains, got, heavy, misses, scanned, spoilt, unscanned}
-use Rattle.read_machine.proofs.Parts.{Asks, asks_call, gets, scans}
-use Rattle.read_machine.proofs.Sound.{Ends, HowSight, answers, empty, gone, how_sight, missing_ends, parts, rows_ends, strange}
+use Rattle.read_machine.proofs.Sound.{HowSight, answers, empty, gone, how_sight, parts, strange}
 
 -- the member, the shard and the count of calls are the same, and a state that was seen isn't forgotten
 pub record Stays (old new : Course) : Type 0 where
