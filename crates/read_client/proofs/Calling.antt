@@ -34,7 +34,8 @@ use Rattle.read_client.specs.declared.questions.Question.TheVariants as question
 use Rattle.read_client.specs.declared.readers.Reader.{Reader}
 use Rattle.read_client.specs.Asking.{question_of, step_question}
 use Rattle.read_client.specs.Machining.{Opens}
-use Rattle.read_client.specs.Reading.{AsksAs, IsAsked, IsOpen, IsSound, MovesAfterTry, call_by, call_of, question, shard_of, verdict}
+use Rattle.read_client.specs.Reading.{AsksAs, IsAsked, IsOpen, IsSound, MovesAfterTry, call_by, call_of, question, shard_of}
+use Rattle.read_client.specs.Reading.{verdict}
 use Rattle.read_client.proofs.Sound.{committed_ends, refused_ends}
 
 -- ---- which polls come of a reply to a transition
@@ -54,12 +55,14 @@ ends_so reply polls.Spent over = tt
 ends_so reply (polls.Damaged damage) over = tt
 ends_so reply (polls.Done answer) over = tt
 
-pub try_comes : (old new : Reader) (reply : Reply) (poll : Poll ReadAnswer) → MovesAfterTry old reply new poll → ComesBy reply poll
+pub try_comes : (old new : Reader) (reply : Reply) (poll : Poll ReadAnswer) → MovesAfterTry old reply new poll →
+    ComesBy reply poll
 try_comes old new reply poll (t, tried, asked, m, asked_is, poll_is, new_is) = subst (ComesBy reply) (sym poll_is) (go tried m)
   where
     -- a failed call comes to a fault
     no : (k : Tried) → trying.Moves old.trying reply t k → (k ≡ tries.Fault → ⊥) → reply ≢ replies.Failed
-    no k moves other failed = other (tried_failed old.trying t k (subst (λ (r : Reply). trying.Moves old.trying r t k) failed moves))
+    no k moves other failed = other (tried_failed old.trying t k (subst (λ
+        (r : Reply). trying.Moves old.trying r t k) failed moves))
 
     go : (k : Tried) → trying.Moves old.trying reply t k → ComesBy reply (verdict (record old { trying = t }) asked k)
     go tries.Begun moves = no tries.Begun moves (λ is. let bad : tries.Begun ≡ tries.Fault = is in cc)
@@ -80,14 +83,19 @@ pub tries_call : (r : Reader) (call : Call) → question r ≡ None → call_of 
 tries_call r call none e = let f : Some (trying.call_of r.trying) ≡ Some call =
     subst (λ (q : Option Question). call_by r q ≡ Some call) none e in cc
 
-pub try_carries : (r : Reader) (call : Call) → IsSound r → question r ≡ None → call_of r ≡ Some call → OnlyCarries (shard_of r) r.trying.step call
-try_carries r call s none e = subst (OnlyCarries (shard_of r) r.trying.step) (sym (tries_call r call none e)) (tried_carries r.trying s.trying)
+pub try_carries : (r : Reader) (call : Call) → IsSound r → question r ≡ None → call_of r ≡ Some call →
+    OnlyCarries (shard_of r) r.trying.step call
+try_carries r call s none e = subst (OnlyCarries (shard_of r) r.trying.step) (sym (tries_call r call none e))
+    (tried_carries r.trying s.trying)
 
 -- a shard's first version is made by an open alone, since a member was seen to join
-pub try_first : (r : Reader) (call : Call) → IsSound r → IsOpen r → question r ≡ None → call_of r ≡ Some call → MakesFirst (Opens r.asked) (shard_of r) call
-try_first r call s is_open unasked e = subst (MakesFirst (Opens r.asked) (shard_of r)) (sym (tries_call r call unasked e)) (tried_first (Opens r.asked) r.trying s.trying opens)
+pub try_first : (r : Reader) (call : Call) → IsSound r → IsOpen r → question r ≡ None → call_of r ≡ Some call →
+    MakesFirst (Opens r.asked) (shard_of r) call
+try_first r call s is_open unasked e = subst (MakesFirst (Opens r.asked) (shard_of r)) (sym (tries_call r call unasked e))
+    (tried_first (Opens r.asked) r.trying s.trying opens)
   where
-    known : {P : Type 0} → r.trying.loader.cached ≡ None → (o : Option ℕ) → IfSome o (λ member. IsSome r.trying.loader.cached) → IsSome o → P
+    known : {P : Type 0} → r.trying.loader.cached ≡ None → (o : Option ℕ) → IfSome o (λ member. IsSome r.trying.loader.cached) →
+        IsSome o → P
     known none None h some = absurd (let bad : false ≡ true = some in cc)
     known none (Some member) h some = absurd (let bad : false ≡ true = subst (λ (c : Option ShardState). IsSome c) none h in cc)
 
@@ -104,9 +112,12 @@ try_first r call s is_open unasked e = subst (MakesFirst (Opens r.asked) (shard_
         of (Some (asks.Snapshot t)) o k = known none r.member (s.known unasked) k
         of (Some (asks.Listen as_of)) o k = known none r.member (s.known unasked) k.0
         of (Some asks.Next) o k = known none r.member (s.known unasked) k.0
-        of (Some (asks.Advance to)) o k = known none r.member (s.known unasked) (some_member r.member (λ member. r.trying.step ≡ Advance member to) k)
-        of (Some (asks.RenewReader now)) o k = known none r.member (s.known unasked) (some_member r.member (λ member. r.trying.step ≡ Renew member now) k)
-        of (Some asks.CloseReader) o k = known none r.member (s.known unasked) (some_member r.member (λ member. r.trying.step ≡ Leave member) k)
+        of (Some (asks.Advance to)) o k = known none r.member (s.known unasked) (some_member r.member
+            (λ member. r.trying.step ≡ Advance member to) k)
+        of (Some (asks.RenewReader now)) o k = known none r.member (s.known unasked) (some_member r.member
+            (λ member. r.trying.step ≡ Renew member now) k)
+        of (Some asks.CloseReader) o k = known none r.member (s.known unasked) (some_member r.member
+            (λ member. r.trying.step ≡ Leave member) k)
         of (Some other) o k = absurd k
 
 -- ---- what its call is allowed by
@@ -147,7 +158,8 @@ holds_next nexts.Attempt x own h = tt
 holds_next nexts.Scan x own h = tt
 holds_next (nexts.Cas r) x own h = h
 
-pub try_allowed : (r : Reader) (call : Call) (own : List Answered) → IsOpen r → IsSound r → question r ≡ None → call_of r ≡ Some call →
+pub try_allowed : (r : Reader) (call : Call) (own : List Answered) → IsOpen r → IsSound r → question r ≡ None →
+    call_of r ≡ Some call →
     FollowsTrying r.trying own → Allows own call
 try_allowed r call own is_open s none e f = subst (Allows own) (sym (tries_call r call none e))
     (tried_allowed r.trying own s.trying f (holds_next r.trying.next r.trying.step own (steps_free r is_open s none own)))

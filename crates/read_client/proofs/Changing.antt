@@ -34,8 +34,10 @@ is_there (Some x) h = (x, refl)
 pub data Changed (r : Reader) (asked : Asked) : Type 0 where
   opens : (shard : ShardId) (now lease : ℕ) → asked ≡ asks.OpenReader shard now lease → shard ≡ shard_of r →
       r.trying.step ≡ Join AsReader now lease → Changed r asked
-  advances : (to member : ℕ) → asked ≡ asks.Advance to → r.member ≡ Some member → r.trying.step ≡ Advance member to → Changed r asked
-  renews : (now member : ℕ) → asked ≡ asks.RenewReader now → r.member ≡ Some member → r.trying.step ≡ Renew member now → Changed r asked
+  advances : (to member : ℕ) → asked ≡ asks.Advance to → r.member ≡ Some member → r.trying.step ≡ Advance member to →
+      Changed r asked
+  renews : (now member : ℕ) → asked ≡ asks.RenewReader now → r.member ≡ Some member → r.trying.step ≡ Renew member now →
+      Changed r asked
   closes : (member : ℕ) → asked ≡ asks.CloseReader → r.member ≡ Some member → r.trying.step ≡ Leave member → Changed r asked
 
 pub changed : (r : Reader) (asked : Asked) → question_of (Some asked) r.listen ≡ None →
@@ -68,7 +70,8 @@ leave_change : (member : ℕ) → IsChange AsReader member (Leave member)
 leave_change member = record { changes = refl; shaped = λ s. refl }
 
 module _ (client : ℕ) (r : Reader) (list : List Update) (start : Stored) (e : Entry) (others es : List Entry) (sound : IsSound r)
-    (f : Follows client r start es) (own : e.client ≡ client) (call : e.call ≡ trying.call_of r.trying) (of : OfOthers client others)
+    (f : Follows client r start es) (own : e.client ≡ client) (call : e.call ≡ trying.call_of r.trying)
+    (of : OfOthers client others)
     (st : StandsFor start (shard_of r) list) (lawful : LawfulBack start (e ∷ (others ++ es))) where
   abbrev Changes : ℕ → Type 0
   Changes member = ChangesAt AsReader member r.trying client list start e others es
@@ -101,6 +104,7 @@ module _ (client : ℕ) (r : Reader) (list : List Update) (start : Stored) (e : 
   changed_at asked (opens shard now lease is same step) =
       changes (own_member r) (subst (IsChange AsReader (own_member r)) (sym step) (join_change (own_member r) now lease))
       (λ of. absurd (let join : IsOfMember (Join AsReader now lease) = subst IsOfMember step of in join))
-  changed_at asked (advances to member is own_is step) = of_member member (Advance member to) own_is step (advance_change member to)
+  changed_at asked (advances to member is own_is step) = of_member member (Advance member to) own_is step
+      (advance_change member to)
   changed_at asked (renews now member is own_is step) = of_member member (Renew member now) own_is step (renew_change member now)
   changed_at asked (closes member is own_is step) = of_member member (Leave member) own_is step (leave_change member)

@@ -33,14 +33,16 @@ use Rattle.read_client.specs.declared.readers.Reader.{Reader}
 use Rattle.read_client.specs.Asking.{asking}
 use Rattle.read_client.specs.Machining.{Did, Opens, kept}
 use Rattle.read_client.specs.Polling.{Effect, IsRefusal}
-use Rattle.read_client.specs.Reading.{IsOpen, IsSound, Moves, MovesBy, call_by, call_of, change_poll, gone_answer, in_answer, own_member, question, reading_on, shard_of, taken_back, verdict}
+use Rattle.read_client.specs.Reading.{IsOpen, IsSound, Moves, MovesBy, call_by, call_of, change_poll, gone_answer, in_answer}
+use Rattle.read_client.specs.Reading.{own_member, question, reading_on, shard_of, taken_back, verdict}
 use Rattle.read_client.proofs.Calling.{tries_call, try_carries, try_first}
 use Rattle.read_client.proofs.Questioning.{IsReadAnswer, came_reads, came_shown, read_keeps}
 use Rattle.read_client.proofs.Sound.{kept_trying, lent_by}
 
 -- ---- one more call is counted
 
-pub counted_more : (old new : Reader) (reply : Reply) (poll : Poll ReadAnswer) → Moves old reply new poll → new.trying.calls ≡ trying.more old.trying.calls
+pub counted_more : (old new : Reader) (reply : Reply) (poll : Poll ReadAnswer) → Moves old reply new poll →
+    new.trying.calls ≡ trying.more old.trying.calls
 counted_more old new reply poll moves = go (question old) moves
   where
     back : (r : Reader) (p : Poll ReadAnswer) → (taken_back r p).trying.calls ≡ r.trying.calls
@@ -52,9 +54,11 @@ counted_more old new reply poll moves = go (question old) moves
     back r (polls.Done answer) = refl
 
     go : (q : Option Question) → MovesBy q old reply new poll → new.trying.calls ≡ trying.more old.trying.calls
-    go None m = ap (λ (r : Reader). r.trying.calls) m.6 ∙ ap (λ (t : Trying). t.calls) (kept_trying (record old { trying = m.0 }) poll) ∙
+    go None m = ap (λ (r : Reader). r.trying.calls) m.6 ∙ ap (λ (t : Trying). t.calls) (kept_trying
+        (record old { trying = m.0 }) poll) ∙
         (moves_same old.trying m.0 reply m.1 m.3).calls
-    go (Some q) m = ap (λ (r : Reader). r.trying.calls) m.3 ∙ ap (λ (t : Trying). t.calls) (kept_trying (taken_back (reading_on old m.0) poll) poll) ∙
+    go (Some q) m = ap (λ (r : Reader). r.trying.calls) m.3 ∙ ap (λ (t : Trying). t.calls) (kept_trying (taken_back
+        (reading_on old m.0) poll) poll) ∙
         back (reading_on old m.0) poll
 
 -- ---- what is committed
@@ -63,7 +67,8 @@ module _ (shard : ShardId) (tried_step : Transition) (call : Call) (reply : Repl
   abbrev Commits : Poll ReadAnswer → Type 0
   Commits poll = Effect shard tried_step call reply poll
 
-  in_effect : (asked : Asked) (version : ℕ) → CommitsStep shard tried_step call reply → Commits (polls.Done (in_answer asked version))
+  in_effect : (asked : Asked) (version : ℕ) → CommitsStep shard tried_step call reply →
+      Commits (polls.Done (in_answer asked version))
   in_effect (asks.Advance to) version n = n
   in_effect (asks.RenewReader now) version n = n
   in_effect _ version n = inl n
@@ -74,7 +79,8 @@ module _ (shard : ShardId) (tried_step : Transition) (call : Call) (reply : Repl
   gone_did _ version n = inr n
 
   -- what a change has committed
-  pub change_did : (r : Reader) (asked : Asked) (o : Outcome) → ChangeEffect shard tried_step call reply o → Commits (change_poll r asked o)
+  pub change_did : (r : Reader) (asked : Asked) (o : Outcome) → ChangeEffect shard tried_step call reply o →
+      Commits (change_poll r asked o)
   change_did r asked outcomes.Going h = h
   change_did r asked outcomes.Fault h = tt
   change_did r asked outcomes.Spent h = tt
@@ -120,7 +126,8 @@ change_goes (asks.RenewReader now) version h = h
 change_goes _ version h = h
 
 refused_stop : (w : Reader) (asked : Asked) (tried : Tried) → IsRefusal (verdict w asked tried) → IsStop tried
-refused_stop w asked (tries.Committed version) h = absurd (committed_as (λ o. IsRefusal (change_poll w asked o) → ⊥) w.trying.loader.cached w.trying.step version (λ k. k)
+refused_stop w asked (tries.Committed version) h = absurd (committed_as (λ o. IsRefusal (change_poll w asked o) →
+    ⊥) w.trying.loader.cached w.trying.step version (λ k. k)
     (change_goes asked version) h)
 refused_stop w asked tries.Begun h = h
 refused_stop w asked tries.Again h = h
@@ -132,7 +139,8 @@ refused_stop w asked (tries.Damaged damage) h = h
 
 -- ---- what a call has done
 
-pub did_of : (r new : Reader) (call : Call) (reply : Reply) (poll : Poll ReadAnswer) → IsSound r → IsOpen r → call_of r ≡ Some call →
+pub did_of : (r new : Reader) (call : Call) (reply : Reply) (poll : Poll ReadAnswer) → IsSound r → IsOpen r →
+    call_of r ≡ Some call →
     Moves r reply new poll → Did (kept r) call reply poll
 did_of r new call reply poll s is_open call_is moves = go (question r) refl moves
   where
@@ -145,15 +153,18 @@ did_of r new call reply poll s is_open call_is moves = go (question r) refl move
           carries = try_carries r call s none call_is;
           first = try_first r call s is_open none call_is;
           shown = λ refused. subst (λ (c : Call). IsShown (shard_of r) c reply) same
-              (stop_shown r.trying t reply tried (refused_stop (record r { trying = t }) asked tried (subst IsRefusal told refused)) m);
+              (stop_shown r.trying t reply tried (refused_stop (record r { trying = t }) asked tried
+              (subst IsRefusal told refused)) m);
           effect = subst (λ (p : Poll ReadAnswer). Effect (shard_of r) r.trying.step call reply p) (sym told)
-              (subst (λ (k : Call). Effect (shard_of r) r.trying.step k reply (verdict (record r { trying = t }) asked tried)) same effect);
+              (subst (λ (k : Call). Effect (shard_of r) r.trying.step k reply (verdict
+              (record r { trying = t }) asked tried)) same effect);
         }
     go (Some q) some (w, m, at, now) =
         let lent = lent_by r q s some in
         let asked : r.reading.asked ≡ Some q = s.asks ∙ some in
         let made = subst (λ (o : Option Question). call_by r o ≡ Some call) some call_is in
-        let d = read_keeps.effect r.reading w call reply poll s.reading (subst (λ (o : Option Question). IsSome o) (sym asked) refl)
+        let d = read_keeps.effect r.reading w call reply poll s.reading (subst (λ (o : Option Question). IsSome o)
+        (sym asked) refl)
         made m in
         let reads : readings.ReadsOf (shard_of r) call = subst (λ (x : ShardId). readings.ReadsOf x call) lent.shard d.reads in
         record {
@@ -161,5 +172,6 @@ did_of r new call reply poll s is_open call_is moves = go (question r) refl move
           first = of_reads (MakesFirst (Opens r.asked) (shard_of r)) (shard_of r) call (λ from. tt) (λ key. tt) reads;
           shown = λ refused. subst (λ (x : ShardId). IsShown x call reply) lent.shard
               (came_shown r.reading.asked (IsShown r.reading.course.loader.shard call reply) reply poll d.did refused);
-          effect = question_did (shard_of r) r.trying.step call reply r.reading.asked (IsShown r.reading.course.loader.shard call reply) poll d.did;
+          effect = question_did (shard_of r) r.trying.step call reply r.reading.asked
+              (IsShown r.reading.course.loader.shard call reply) poll d.did;
         }

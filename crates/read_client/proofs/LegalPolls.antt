@@ -28,17 +28,24 @@ module _ (client : ℕ) (r : Reader) (list : List Update) (start : Stored) (e : 
 
   -- LegalPoll for this command, after so many calls
   abbrev pub LegalOf : Asked → Poll ReadAnswer → Type 0
-  LegalOf asked (polls.Done answer) = calls < most → LegalReadBack list start all (command_in client (kept r) asked calls) answer × ReadsParts client (shard_of r) calls answer start all asked
-  LegalOf asked polls.Spent = calls < most → AtLastScan (shard_of r) (AtLast start (shard_of r) (λ n s. n ≡ most)) (places client calls all)
+  LegalOf asked (polls.Done answer) = calls < most → LegalReadBack list start all (command_in client
+      (kept r) asked calls) answer × ReadsParts client (shard_of r) calls answer start all asked
+  LegalOf asked polls.Spent = calls < most → AtLastScan (shard_of r) (AtLast start (shard_of r) (λ n s. n ≡ most))
+      (places client calls all)
   LegalOf asked (polls.Damaged damage) = ⊥
   LegalOf asked _ = ⊤
 
-  pub legal_poll : (new : Reader) (asked : Asked) (poll : Poll ReadAnswer) → new.trying.calls ≡ calls → r.asked ≡ Some asked → LegalOf asked poll → LegalPoll client r new poll start all list
+  pub legal_poll : (new : Reader) (asked : Asked) (poll : Poll ReadAnswer) → new.trying.calls ≡ calls → r.asked ≡ Some asked →
+      LegalOf asked poll → LegalPoll client r new poll start all list
   legal_poll new asked (polls.Done answer) c a h = λ less.
-      subst (λ (n : ℕ). IfSome r.asked (λ asked. LegalReadBack list start all (command_in client (kept r) asked n) answer × ReadsParts client (shard_of r) n answer start all asked)) (sym c)
-      (subst (λ (o : Option Asked). IfSome o (λ asked. LegalReadBack list start all (command_in client (kept r) asked calls) answer × ReadsParts client (shard_of r) calls answer start all asked)) (sym a) (h (subst (λ (n : ℕ). n < most) c less)))
+      subst (λ (n : ℕ). IfSome r.asked (λ asked. LegalReadBack list start all (command_in client
+      (kept r) asked n) answer × ReadsParts client (shard_of r) n answer start all asked)) (sym c)
+      (subst (λ (o : Option Asked). IfSome o (λ asked. LegalReadBack list start all (command_in client
+      (kept r) asked calls) answer × ReadsParts client (shard_of r) calls answer start all asked)) (sym a) (h (subst (λ
+      (n : ℕ). n < most) c less)))
   legal_poll new asked polls.Spent c a h = λ less.
-      subst (λ (n : ℕ). AtLastScan (shard_of r) (AtLast start (shard_of r) (λ n s. n ≡ most)) (places client n all)) (sym c) (h (subst (λ (n : ℕ). n < most) c less))
+      subst (λ (n : ℕ). AtLastScan (shard_of r) (AtLast start (shard_of r) (λ n s. n ≡ most)) (places client n all)) (sym c) (h
+      (subst (λ (n : ℕ). n < most) c less))
   legal_poll new asked (polls.Damaged damage) c a h = h
   legal_poll new asked polls.Busy c a h = tt
   legal_poll new asked polls.More c a h = tt

@@ -4,7 +4,8 @@ use Rattle.std.specs.Prelude.{⊤, IsSomeAnd, nat_le}
 use Rattle.std.specs.List.{AllByRecursion}
 use Rattle.std.specs.Ordering.{is_lt}
 use Rattle.update_core.specs.declared.updates.Update.{Update}
-use Rattle.update_core.specs.Collections.{Collection as PlainCollection, ListenAnswer, SnapshotAnswer, behind, content, early, ended, late, listen_answer, quiet, snapshot_answer, step}
+use Rattle.update_core.specs.Collections.{Collection as PlainCollection, ListenAnswer, SnapshotAnswer, behind, content, early}
+use Rattle.update_core.specs.Collections.{ended, late, listen_answer, quiet, snapshot_answer, step}
 use Rattle.update_core.specs.Frontiers.{frontier_cmp}
 use Rattle.update_core.specs.Updates.{slice_of, sum_of}
 use Rattle.store_core.specs.declared.part_keys.PartKey.{PartKey}
@@ -39,7 +40,8 @@ use Rattle.read_client.specs.declared.questions.Question.TheVariants as question
 use Rattle.read_client.specs.Asking.{QuestionLegal, QuestionReads, RowGot, asking, asks_of, content_look, rows_answer, step_look}
 use Rattle.read_client.specs.Polling.{IsRefusal}
 use Rattle.read_client.proofs.Contents.{rows_back, stand_back, step_back}
-use Rattle.read_client.proofs.Looks.{HowListen, HowSnapshot, behinds, contents, earlies, endeds, how_listen, how_snapshot, lates, quiets, steps}
+use Rattle.read_client.proofs.Looks.{HowListen, HowSnapshot, behinds, contents, earlies, endeds, how_listen, how_snapshot, lates}
+use Rattle.read_client.proofs.Looks.{quiets, steps}
 use Rattle.read_client.proofs.StepParts.{row_in, row_since}
 
 -- a look is one thing alone
@@ -112,7 +114,8 @@ some_parts (questions.Step f) s keys e = listen_reads f s keys e (SomeParts s)
 
 -- ---- at the Scan that showed the state
 
-module _ (client : ℕ) (shard : ShardId) (member calls : ℕ) (list : List Update) (start : Stored) (later : List Entry) (scan : Entry)
+module _ (client : ℕ) (shard : ShardId) (member calls : ℕ) (list : List Update) (start : Stored) (later : List Entry)
+    (scan : Entry)
     (before : List Entry) (s : ShardState) (at : ShownAt client shard member calls list start later scan before s) where
   abbrev ps : List Placed
   ps = since client calls later scan before
@@ -154,24 +157,35 @@ module _ (client : ℕ) (shard : ShardId) (member calls : ℕ) (list : List Upda
   last_now = last_then client start shard list at.stands later scan before at.lawful s at.answered at.last
 
   content_told : (t : ℕ) (rows : List Update) → Says t s (λ us. content (sum_of us t)) →
-      GotSince client start later scan before (snapshot_keys t s) rows → Told (questions.Content t) (rows_answer (questions.Content t) s rows)
+      GotSince client start later scan before (snapshot_keys t s) rows →
+      Told (questions.Content t) (rows_answer (questions.Content t) s rows)
   content_told t rows h held =
       let sums : sum_of rows t ≡ sum_of there t =
-      rows_back start (scan ∷ before) later shard list at.stands at.lawful s.number s last_now t (sum_of now t) (h now) client rows held ∙
-      ap (λ (us : List Update). sum_of us t) now_is in
-      (reads_at (λ c. snapshot_answer c t ≡ content (sum_of rows t)) (h there ∙ ap content (sym sums)), parts_at (snapshot_keys t) rows held)
+      rows_back start (scan ∷ before) later shard list at.stands at.lawful s.number s last_now t (sum_of now t)
+      (h now) client rows held ∙
+      ap (λ (us : List Update). sum_of us t) now_is in (
+        reads_at (λ c. snapshot_answer c t ≡ content (sum_of rows t)) (h there
+            ∙ ap content (sym sums)),
+        parts_at (snapshot_keys t) rows held,
+      )
 
   step_told : (f : Option ℕ) (rows : List Update) → Hears f s (λ us. step (slice_of us f s.upper) s.upper) →
-      GotSince client start later scan before (step_keys f s) rows → Told (questions.Step f) (rows_answer (questions.Step f) s rows)
+      GotSince client start later scan before (step_keys f s) rows →
+      Told (questions.Step f) (rows_answer (questions.Step f) s rows)
   step_told f rows h held =
       let slices : slice_of rows f s.upper ≡ slice_of now f s.upper =
-      step_back start (scan ∷ before) later shard list at.stands at.lawful s.number s last_now f s.upper (slice_of now f s.upper) (h now)
+      step_back start (scan ∷ before) later shard list at.stands at.lawful s.number s last_now f s.upper
+      (slice_of now f s.upper) (h now)
       client rows held in
       let stand = stand_back start (scan ∷ before) later shard list at.stands at.lawful s.number s last_now f s.upper
       (slice_of now f s.upper) (h now) client rows held in
-      let slices2 : slice_of rows f s.upper ≡ slice_of there f s.upper = slices ∙ ap (λ (us : List Update). slice_of us f s.upper) now_is in (
-        (refl, reads_at (λ c. listen_answer c f ≡ step (slice_of rows f s.upper) s.upper)
-            (h there ∙ ap (λ (us : List Update). step us s.upper) (sym slices2))),
+      let slices2 : slice_of rows f s.upper ≡ slice_of there f s.upper = slices
+      ∙ ap (λ (us : List Update). slice_of us f s.upper) now_is in (
+        (
+          refl,
+          reads_at (λ c. listen_answer c f ≡ step (slice_of rows f s.upper) s.upper)
+              (h there ∙ ap (λ (us : List Update). step us s.upper) (sym slices2)),
+        ),
         (
           parts_at (step_keys f) rows held,
           each_intro (RowGot start shard ps) (slice_of rows f s.upper)
@@ -183,14 +197,16 @@ module _ (client : ℕ) (shard : ShardId) (member calls : ℕ) (list : List Upda
 
   got_told : (q : Question) (keys : List PartKey) (rows : List Update) → asks_of q s ≡ looks.Parts keys →
       GotSince client start later scan before keys rows → Told q (rows_answer q s rows)
-  got_told (questions.Content t) keys rows e held = snapshot_reads t s keys e (λ ks. GotSince client start later scan before ks rows →
+  got_told (questions.Content t) keys rows e held = snapshot_reads t s keys e
+      (λ ks. GotSince client start later scan before ks rows →
       Told (questions.Content t) (rows_answer (questions.Content t) s rows)) (λ h got. content_told t rows h got) held
   got_told (questions.Step f) keys rows e held = listen_reads f s keys e (λ ks. GotSince client start later scan before ks rows →
       Told (questions.Step f) (rows_answer (questions.Step f) s rows)) (λ h got. step_told f rows h got) held
 
 gone_told : (q : Question) (shard : ShardId) (member version : ℕ) (start : Stored) (ps : List Placed) (list : List Update) →
     Absent start shard member version ps →
-    QuestionLegal q shard member start ps list (answers.Expired version) × QuestionReads q shard start ps (answers.Expired version)
+    QuestionLegal q shard member start ps list (answers.Expired version) × QuestionReads q shard start ps
+    (answers.Expired version)
 gone_told (questions.Content t) shard member version start entries list h = (h, tt)
 gone_told (questions.Step f) shard member version start entries list h = (h, tt)
 
@@ -199,9 +215,11 @@ is_question = record {
   kind_taken = refl;
   leased = refl;
   parts = some_parts;
-  seen = λ q client shard member calls list start later scan before s answer at. seen_told client shard member calls list start later scan
+  seen = λ q client shard member calls list start later scan before s answer at. seen_told client shard member calls list start
+      later scan
       before s at q answer;
-  got = λ q client shard member calls list start later scan before s keys rows at. got_told client shard member calls list start later scan
+  got = λ q client shard member calls list start later scan before s keys rows at. got_told client shard member calls list start
+      later scan
       before s at q keys rows;
   gone = gone_told;
 }

@@ -35,12 +35,14 @@ row_in P (k ∷ ks) rows row (b, first, rest, given, reads, parted, others) amon
     ]
 
 -- and where the bytes were got since a Scan, the row was got since the last answered Scan
-pub row_since : (client n : ℕ) (start : Stored) (shard : ShardId) (row : Update) (later : List Entry) (scan : Entry) (before : List Entry) →
+pub row_since : (client n : ℕ) (start : Stored) (shard : ShardId) (row : Update) (later : List Entry) (scan : Entry)
+    (before : List Entry) →
     NoScanOf client shard later → own_count client later < n →
     RowIn (GotAs (mine_back (replay_back start (scan ∷ before)) later client)) row →
     RowGot start shard (places client n (later ++ (scan ∷ before))) row
 row_since client n start shard row later scan before quiet few h =
-    since_got client n start shard h.key h.bytes (λ ps. RowGot start shard ps row) (λ p ps still got. (still, by p ps got)) later scan before quiet few
+    since_got client n start shard h.key h.bytes (λ ps. RowGot start shard ps row) (λ p ps still got.
+    (still, by p ps got)) later scan before quiet few
     h.given
   where
     by : (p : Placed) (ps : List Placed) → IsGot h.key h.bytes p.entry.call (reply_at start p) ⊎ RowGot start shard ps row →

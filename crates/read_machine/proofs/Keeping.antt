@@ -1,5 +1,6 @@
 -- What holds of a machine whose commands each ask a shard a question. Entries go newest first.
-use Rattle.std.proofs.Common.{◌≡◌, ◌≢◌, ◌+◌, ◌<◌, ◌≤◌, ◌^◌, ℕ, true, false, Option, Some, None, List, ◌∷◌, ◌++◌, length, inl, inr, refl, sym, ap, subst, ◌∙◌, arith}
+use Rattle.std.proofs.Common.{◌≡◌, ◌≢◌, ◌+◌, ◌<◌, ◌≤◌, ◌^◌, ℕ, true, false, Option, Some, None, List, ◌∷◌, ◌++◌, length, inl, inr}
+use Rattle.std.proofs.Common.{refl, sym, ap, subst, ◌∙◌, arith}
 use Rattle.std.specs.Prelude.{⊤, IfSome, IsSome, IsSomeAnd, filter}
 use Rattle.update_core.specs.declared.updates.Update.{Update}
 use Rattle.store_core.specs.declared.part_keys.PartKey.{PartKey}
@@ -37,7 +38,8 @@ use Rattle.read_machine.specs.declared.stages.Stage.TheVariants as stages
 use Rattle.read_machine.specs.Courses.{counted, read_call}
 use Rattle.read_machine.specs.Following.{FollowsAsked, ReadCost}
 use Rattle.read_machine.specs.Questions.{IsQuestion, Questions}
-use Rattle.read_machine.specs.Readings.{Did, DidBy, Follows, IsGetting, IsReading as IsReadingAt, IsSound, Moves, MovesBy, ReadKept, ReadsOf, SoundBy, asked_after, kept, words}
+use Rattle.read_machine.specs.Readings.{Did, DidBy, Follows, IsGetting, IsReading as IsReadingAt, IsSound, Moves, MovesBy}
+use Rattle.read_machine.specs.Readings.{ReadKept, ReadsOf, SoundBy, asked_after, kept, words}
 use Rattle.read_machine.proofs.Costs.{CostAfter, read_cost}
 use Rattle.read_machine.proofs.FollowsOn.{counted_on, read_on, shown_still}
 use Rattle.read_machine.proofs.HowRead.{HowRead, IsScanStage, how_read}
@@ -71,12 +73,20 @@ module _ {Q A : Type 0} (W : Questions Q A) where
     where
       go : (o : Option Q) → m.asked ≡ o → IsSomeAnd o (λ q. MovesBy W q m r new poll) → Read m new r poll
       go None is h = absurd h
-      go (Some q) is (c, h, now) = record { q = q; asked = is; course = c; how = how_read W (counted m.course) q r c poll h; now = now }
+      go (Some q) is (c, h, now) = record {
+        q = q;
+        asked = is;
+        course = c;
+        how = how_read W
+            (counted m.course) q r c poll h;
+        now = now;
+      }
 
   pub read_stays : (m new : Reading Q) (r : Reply) (poll : Poll A) → Moves W m r new poll → Stays (counted m.course) new.course
   read_stays m new r poll moves =
       let x = read_so m new r poll moves in
-      subst (λ (z : Reading Q). Stays (counted m.course) z.course) (sym x.now) (stays W (counted m.course) x.q r x.course poll x.how)
+      subst (λ (z : Reading Q). Stays (counted m.course) z.course) (sym x.now) (stays W
+      (counted m.course) x.q r x.course poll x.how)
 
   same_kept : (m new : Reading Q) → Stays (counted m.course) new.course → new.asked ≡ m.asked → kept new ≡ kept m
   same_kept m new s asked = λ i. record { asked = asked i; member = s.member i; shard = s.shard i }
@@ -96,7 +106,8 @@ module _ {Q A : Type 0} (W : Questions Q A) where
 
   -- where it has ended nothing is asked
   pub ended_none : (m new : Reading Q) (r : Reply) (poll : Poll A) → Moves W m r new poll → Ends poll → new.asked ≡ None
-  ended_none m new r poll moves over = let x = read_so m new r poll moves in ap (λ (z : Reading Q). z.asked) x.now ∙ go poll x.q over
+  ended_none m new r poll moves over = let x = read_so m new r poll moves in ap (λ (z : Reading Q). z.asked) x.now
+      ∙ go poll x.q over
     where
       go : (p : Poll A) (q : Q) → Ends p → asked_after (Some q) p ≡ None
       go polls.Busy q h = absurd h
@@ -132,7 +143,8 @@ module _ {Q A : Type 0} (W : Questions Q A) where
 
   -- ---- entries
 
-  others_on : (client : ℕ) (m : Reading Q) (start : Stored) (others es : List Entry) → OfOthers client others → Follows W client m start es →
+  others_on : (client : ℕ) (m : Reading Q) (start : Stored) (others es : List Entry) → OfOthers client others →
+      Follows W client m start es →
       Follows W client m start (others ++ es)
   others_on client m start others es of f = record {
     shown = subst (FollowsLoading m.course.loader) (sym (mine_others start client others es of)) f.shown;
@@ -144,7 +156,8 @@ module _ {Q A : Type 0} (W : Questions Q A) where
       go None h = h
       go (Some q) h = asked_others W.kind start client others es of m.course h
 
-  spared_on : (client : ℕ) (m : Reading Q) (start : Stored) (e : Entry) (others es : List Entry) → ¬ IsSome m.asked → e.client ≡ client →
+  spared_on : (client : ℕ) (m : Reading Q) (start : Stored) (e : Entry) (others es : List Entry) → ¬ IsSome m.asked →
+      e.client ≡ client →
       OfOthers client others → Follows W client m start es → Follows W client m start (e ∷ (others ++ es))
   spared_on client m start e others es closed own of f = record {
     shown = subst (FollowsLoading m.course.loader) (sym (mine_gained start client e others es own of))
@@ -169,12 +182,15 @@ module _ {Q A : Type 0} (W : Questions Q A) where
     asked_by q is = let h = a.follows.asked in
         subst (λ (o : Option Q). IfSome o (λ x. FollowsAsked W.kind client m.course start es)) is h
 
-    pub moved_follows : (new : Reading Q) (poll : Poll A) → Moves W m (reply_there start e others es) new poll → Follows W client new start now
+    pub moved_follows : (new : Reading Q) (poll : Poll A) → Moves W m (reply_there start e others es) new poll →
+        Follows W client new start now
     moved_follows new poll moves =
         let x = read_so m new (reply_there start e others es) poll moves in
-        let on = read_on W L start list client m.course x.q e others es (sound_by m x.q x.asked a.ready) call_is c.own c.of_others c.stands
+        let on = read_on W L start list client m.course x.q e others es
+        (sound_by m x.q x.asked a.ready) call_is c.own c.of_others c.stands
         c.lawful a.follows.shown (asked_by x.q x.asked) x.course poll x.how in
-        subst (λ (z : Reading Q). Follows W client z start now) (sym x.now) (record { shown = on.0; asked = go poll x.course x.q on.1 })
+        subst (λ (z : Reading Q). Follows W client z start now) (sym x.now)
+        (record { shown = on.0; asked = go poll x.course x.q on.1 })
       where
         go : (p : Poll A) (k : Course) (q : Q) → (¬ Ends p → FollowsAsked W.kind client k start now) →
             IfSome (asked_after (Some q) p) (λ y. FollowsAsked W.kind client k start now)
@@ -190,10 +206,12 @@ module _ {Q A : Type 0} (W : Questions Q A) where
         let (q, asked) = open_asked m a.is_open in
         let s = sound_by m q asked a.ready in
         subst (λ (z : Reading Q). Follows W client z start now) (sym is) (record {
-          shown = shown_still W L start list client m.course q e others es s call_is c.own c.of_others c.stands c.lawful a.follows.shown
+          shown = shown_still W L start list client m.course q e others es s call_is c.own c.of_others c.stands c.lawful
+              a.follows.shown
               (asked_by q asked);
           asked = subst (λ (o : Option Q). IfSome o (λ x. FollowsAsked W.kind client (counted m.course) start now)) (sym asked)
-              (counted_on W L start list client m.course q e others es s call_is c.own c.of_others c.stands c.lawful a.follows.shown
+              (counted_on W L start list client m.course q e others es s call_is c.own c.of_others c.stands c.lawful
+              a.follows.shown
               (asked_by q asked));
         })
 
@@ -202,26 +220,32 @@ module _ {Q A : Type 0} (W : Questions Q A) where
     moved_legal new poll moves =
         let x = read_so m new (reply_there start e others es) poll moves in
         go poll x.q x.asked (read_stays m new (reply_there start e others es) poll moves).calls
-        (read_legal W L start list client m.course x.q e others es (sound_by m x.q x.asked a.ready) call_is c.own c.of_others c.stands c.lawful
+        (read_legal W L start list client m.course x.q e others es
+        (sound_by m x.q x.asked a.ready) call_is c.own c.of_others c.stands c.lawful
         a.follows.shown (asked_by x.q x.asked) x.course poll x.how)
       where
         go : (p : Poll A) (q : Q) → m.asked ≡ Some q → new.course.calls ≡ more m.course.calls →
-            LegalAfter W client m.course q start list now p → LegalPoll (words W) client (kept m) new.course.calls p start now list
+            LegalAfter W client m.course q start list now p → LegalPoll (words W) client
+            (kept m) new.course.calls p start now list
         go polls.Busy q is calls h = tt
         go polls.More q is calls h = tt
         go polls.Fault q is calls h = tt
         go polls.Spent q is calls h = absurd h
         go (polls.Damaged damage) q is calls h = absurd h
         go (polls.Done answer) q is calls h = λ less.
-            subst (λ (n : ℕ). IfSome m.asked (λ y. W.Legal y m.course.loader.shard m.course.member start (places client n now) list answer))
+            subst (λ (n : ℕ). IfSome m.asked (λ y. W.Legal y m.course.loader.shard m.course.member start
+            (places client n now) list answer))
             (sym calls) (subst (λ (o : Option Q). IfSome o (λ y. W.Legal y m.course.loader.shard m.course.member start
             (places client (more m.course.calls) now) list answer)) (sym is) (h (subst (λ (n : ℕ). n < most) calls less)))
 
-    pub moved_cost : (base : ℕ) (old new : Reading Q) (poll : Poll A) → m ≡ old → Moves W m (reply_there start e others es) new poll →
-        (m.course.calls < most → ReadCost client m.course m.course.stage es) → CostPoll (words W) base client old new poll start now list
+    pub moved_cost : (base : ℕ) (old new : Reading Q) (poll : Poll A) → m ≡ old →
+        Moves W m (reply_there start e others es) new poll →
+        (m.course.calls < most → ReadCost client m.course m.course.stage es) →
+        CostPoll (words W) base client old new poll start now list
     moved_cost base old new poll same moves at =
         let x = read_so m new (reply_there start e others es) poll moves in
-        let cost = read_cost W client m.course x.q start e others es call_is c.own c.of_others (left x.q x.asked) at x.course poll x.how in
+        let cost = read_cost W client m.course x.q start e others es call_is c.own c.of_others
+        (left x.q x.asked) at x.course poll x.how in
         let now_is : new.course ≡ x.course = ap (λ (z : Reading Q). z.course) x.now in
         subst (λ (z : Reading Q). CostPoll (words W) base client z new poll start now list) same
         (go poll (subst (λ (k : Course). CostAfter client m.course now k poll) (sym now_is) cost))
@@ -245,7 +269,8 @@ module _ {Q A : Type 0} (W : Questions Q A) where
 
   module _ (L : IsQuestion W) where
     -- no more parts are got than a shard can have rows
-    pub few_read : (c : Course) (q : Q) (own : List Answered) → FollowsLoading c.loader own → IsSomeAnd c.loader.cached (IsGetting W c q) →
+    pub few_read : (c : Course) (q : Q) (own : List Answered) → FollowsLoading c.loader own →
+        IsSomeAnd c.loader.cached (IsGetting W c q) →
         length c.getting.keys ≤ 2 ^ 62
     few_read c q own f h = go c.loader.cached f h
       where
@@ -259,20 +284,36 @@ module _ {Q A : Type 0} (W : Questions Q A) where
             omega (arith, many, few_keys some.test s.batches rules.parts, rules.rows, rules.light)
 
     -- where no call failed it has made few while it goes on
-    pub few_calls : (client : ℕ) (m : Reading Q) (start : Stored) (es : List Entry) → IsSome m.asked → IsSound W m → Follows W client m start es →
+    pub few_calls : (client : ℕ) (m : Reading Q) (start : Stored) (es : List Entry) → IsSome m.asked → IsSound W m →
+        Follows W client m start es →
         ReadCost client m.course m.course.stage es → failed_calls client m.course.calls es ≡ 0 → m.course.calls ≤ 2 ^ 62 + 3
     few_calls client m start es is sound follows cost failed =
         let (q, asked) = open_asked m is in
         by_stage q m.course.stage (sound_by m q asked sound).reading cost
       where
-        by_stage : (q : Q) (stage : Stage) → IsReadingAt W m.course stage q → ReadCost client m.course stage es → m.course.calls ≤ 2 ^ 62 + 3
+        by_stage : (q : Q) (stage : Stage) → IsReadingAt W m.course stage q → ReadCost client m.course stage es →
+            m.course.calls ≤ 2 ^ 62 + 3
         by_stage q stages.Scan h k = omega (arith, k, failed)
-        by_stage q stages.Get h k = omega (arith, k, failed, sound.getting.within, few_read m.course q (mine_back start es client) follows.shown h)
-        by_stage q (stages.Check key) h k = omega (arith, k, failed, few_read m.course q (mine_back start es client) follows.shown h.0)
+        by_stage q stages.Get h k = omega (
+          arith,
+          k,
+          failed,
+          sound.getting.within,
+          few_read m.course q
+              (mine_back start es client) follows.shown h,
+        )
+        by_stage q (stages.Check key) h k = omega (
+          arith,
+          k,
+          failed,
+          few_read m.course q
+              (mine_back start es client) follows.shown h.0,
+        )
 
     -- what its call has done, where a Scan that is answered shows this
     read_did : (m new : Reading Q) (r : Reply) (poll : Poll A) (Shown : Type 0) →
-        ((vs : List Version) → IsScanStage m.course.stage → r ≡ replies.Versions vs → Shown) → IsSound W m → Moves W m r new poll →
+        ((vs : List Version) → IsScanStage m.course.stage → r ≡ replies.Versions vs → Shown) → IsSound W m →
+        Moves W m r new poll →
         IsSomeAnd m.asked (λ q. DidBy W q Shown r poll)
     read_did m new r poll Shown shown sound moves =
         let x = read_so m new r poll moves in
@@ -287,11 +328,16 @@ module _ {Q A : Type 0} (W : Questions Q A) where
         go None d = absurd d
         go (Some q) d = h q d
 
-    did_of : (m new : Reading Q) (call : Call) (r : Reply) (poll : Poll A) → IsSound W m → read_call m.course m.course.stage ≡ Some call →
+    did_of : (m new : Reading Q) (call : Call) (r : Reply) (poll : Poll A) → IsSound W m →
+        read_call m.course m.course.stage ≡ Some call →
         Moves W m r new poll → Did W (kept m) call r poll
     did_of m new call r poll sound is moves = record {
       reads = reads_of m.course call is;
-      did = read_did m new r poll (IsShown m.course.loader.shard call r) (λ vs st e. (scan_shown (asks_call m.course call is) st, (vs, e))) sound
+      did = read_did m new r poll (IsShown m.course.loader.shard call r) (λ vs st e. (
+        scan_shown
+            (asks_call m.course call is) st,
+        (vs, e),
+      )) sound
           moves;
     }
       where
@@ -310,7 +356,8 @@ module _ {Q A : Type 0} (W : Questions Q A) where
       others_follow = others_on;
       spared_follows = λ client m start e others es closed spares. spared_on client m start e others es closed;
       moved_kept = λ m new r poll ready. more_kept m new r poll;
-      moved_open = λ m new r poll ready is moves on. subst (λ (k : ReadKept Q). IsSome k.asked) (sym (more_kept m new r poll moves on)) is;
+      moved_open = λ m new r poll ready is moves on. subst (λ (k : ReadKept Q). IsSome k.asked) (sym
+          (more_kept m new r poll moves on)) is;
       moved_shard = λ m new r poll moves. (read_stays m new r poll moves).shard;
       ended = λ m new r answer moves. record {
         asked = ap (λ (z : Reading Q). z.asked) (read_so m new r (polls.Done answer) moves).now;
@@ -321,12 +368,16 @@ module _ {Q A : Type 0} (W : Questions Q A) where
       more_answered = λ m new r. did_so m new r polls.More (r ≢ replies.Failed) (λ q d. d.answered);
       counted = λ m new r poll moves. (read_stays m new r poll moves).calls;
       effect = λ m new call r poll ready is call_is moves. did_of m new call r poll ready call_is moves;
-      allowed = λ client m call start es a. of_reads (Allows (mine_back start es client)) m.course.loader.shard call (λ from. tt) (λ key. tt)
+      allowed = λ client m call start es a. of_reads (Allows (mine_back start es client)) m.course.loader.shard call
+          (λ from. tt) (λ key. tt)
           (reads_of m.course call a.call_is);
-      follows = λ client m new call poll list start e others es a c moves. moved_follows L client m call list start e others es a c new poll
+      follows = λ client m new call poll list start e others es a c moves. moved_follows L client m call list start e others es a
+          c new poll
           moves;
-      legal = λ client m new call poll list start e others es a c moves. moved_legal L client m call list start e others es a c new poll moves;
-      cost = λ base client old ready new call poll list start e others es least p a c moves at. moved_cost L client ready call list start e
+      legal = λ client m new call poll list start e others es a c moves. moved_legal L client m call list start e others es a c
+          new poll moves;
+      cost = λ base client old ready new call poll list start e others es least p a c moves at. moved_cost L client ready call
+          list start e
           others es a c base old new poll p moves at;
       wanted_kept = λ m new h. ap kept h;
       wanted_counted = λ m new h. ap (λ (z : Reading Q). z.course.calls) h;
@@ -335,7 +386,8 @@ module _ {Q A : Type 0} (W : Questions Q A) where
         of_reads IsReading m.course.loader.shard call (λ from. tt) (λ key. tt) (reads_of m.course call is),
         ap (λ (z : Reading Q). read_call z.course z.course.stage) h ∙ same_call m.course m.course.stage ∙ is,
       );
-      wanted_follows = λ client m new call list start e others es a c h. wanted_follows L client m call list start e others es a c new h;
+      wanted_follows = λ client m new call list start e others es a c h. wanted_follows L client m call list start e others es a
+          c new h;
     }
 
     pub ending : Ending (words W)

@@ -17,7 +17,8 @@ use Rattle.read_machine.specs.Courses.{Checks, ComesTo, Looks, ScansTo, holding,
 use Rattle.read_machine.specs.Questions.{Questions}
 
 -- where nothing newer came, the newest state is the one that was seen
-nothing_newer : {A : Type 0} (old : Course) (does : ShardState → Course → Poll A → Type 0) (reply : Reply) (s : Seen) (new : Course)
+nothing_newer : {A : Type 0} (old : Course) (does : ShardState → Course → Poll A →
+    Type 0) (reply : Reply) (s : Seen) (new : Course)
     (poll : Poll A) → s ≡ seen.Nothing → Shows old.loader.shard reply s → ComesTo old does (Ok old.loader.cached) new poll →
     ScansTo old does reply new poll
 nothing_newer old does reply s new poll is h comes = go reply (subst (Shows old.loader.shard reply) is h)
@@ -37,7 +38,8 @@ nothing_newer old does reply s new poll is h comes = go reply (subst (Shows old.
 
 -- a course that knows a state holds it
 held : (c : Course) (s : ShardState) → c.loader.cached ≡ Some s → c ≡ holding c s
-held c s e = ap (λ (o : Option ShardState). let h : Course = record c { loader = record { shard = c.loader.shard; cached = o } } in h) e
+held c s e = ap (λ (o : Option ShardState). let h : Course = record c { loader = record { shard = c.loader.shard; cached = o } }
+    in h) e
 
 module _ {Q A : Type 0} (W : Questions Q A) (old : Course) (q : Q) where
   -- after a Scan that tells why a part is missing
@@ -49,7 +51,8 @@ module _ {Q A : Type 0} (W : Questions Q A) (old : Course) (q : Q) where
   pub nothing_checks : (key : PartKey) (reply : Reply) (s : Seen) (poll : Poll A) → s ≡ seen.Nothing → IsSome old.loader.cached →
       Shows old.loader.shard reply s → poll ≡ missing_poll W old q key → ScansTo old (Checks W old q key) reply old poll
   nothing_checks key reply s poll is some h told = subst (λ (p : Poll A). ScansTo old (Checks W old q key) reply old p) (sym told)
-      (nothing_newer old (Checks W old q key) reply s old (missing_poll W old q key) is h (checks_by key old.loader.cached refl some))
+      (nothing_newer old (Checks W old q key) reply s old (missing_poll W old q key) is h
+      (checks_by key old.loader.cached refl some))
 
   -- after one that shows what there is to be read, of each poll that it may come to
   pub nothing_scans : (reply : Reply) (s : Seen) (new : Course) (r : Result (Poll A) AllocError) → s ≡ seen.Nothing →

@@ -12,7 +12,8 @@ use Rattle.history_core.specs.Placing.{AtLastScan, GotSinceScan, Placed, placed,
 use Rattle.read_machine.specs.Questions.{GotSince, ShownAt, since}
 use Rattle.read_machine.proofs.Places.{at_last, since_got}
 
-module _ (client : ℕ) (shard : ShardId) (member calls : ℕ) (list : List Update) (start : Stored) (later : List Entry) (scan : Entry)
+module _ (client : ℕ) (shard : ShardId) (member calls : ℕ) (list : List Update) (start : Stored) (later : List Entry)
+    (scan : Entry)
     (before : List Entry) (s : ShardState) (at : ShownAt client shard member calls list start later scan before s) where
   -- what holds at its place holds at the command's last answered Scan
   pub at_scan : (P : Placed → Type 0) → P (placed scan before) → AtLastScan shard P (since client calls later scan before)
@@ -23,7 +24,8 @@ module _ (client : ℕ) (shard : ShardId) (member calls : ℕ) (list : List Upda
       AllByRecursion (λ k. GotSinceScan start shard k (since client calls later scan before)) keys
   each_got [] rows h = tt
   each_got (k ∷ ks) rows (b, first, rest, here, reads, parted, others) = (
-    since_got client calls start shard k b (GotSinceScan start shard k) (λ p ps quiet h. (quiet, by p ps h)) later scan before at.quiet at.few here,
+    since_got client calls start shard k b (GotSinceScan start shard k) (λ p ps quiet h.
+        (quiet, by p ps h)) later scan before at.quiet at.few here,
     each_got ks rest others,
   )
     where

@@ -21,7 +21,8 @@ use Rattle.read_machine.specs.declared.stages.Stage.TheVariants as stages
 use Rattle.read_machine.specs.Courses.{MovesByFetched, holding, missing_poll, rows_by, rows_poll, sight_of, sight_poll, staged}
 use Rattle.read_machine.specs.Questions.{Questions}
 use Rattle.read_machine.specs.Readings.{DidBy, lapsed, looked, read}
-use Rattle.read_machine.proofs.HowRead.{HowGot, HowRead, IsScanStage, checked, damaged, fails, gains, got, heavy, misses, scanned, spoilt, unscanned}
+use Rattle.read_machine.proofs.HowRead.{HowGot, HowRead, IsScanStage, checked, damaged, fails, gains, got, heavy, misses, scanned}
+use Rattle.read_machine.proofs.HowRead.{spoilt, unscanned}
 use Rattle.read_machine.proofs.Sound.{HowSight, answers, empty, gone, how_sight, parts, strange}
 
 -- the member, the shard and the count of calls are the same, and a state that was seen isn't forgotten
@@ -57,20 +58,25 @@ module _ {Q A : Type 0} (W : Questions Q A) (old : Course) (q : Q) (reply : Repl
   staged_stays k (sights.Parts ks) = record { member = refl; shard = refl; calls = refl; known = λ h. refl }
 
   fetched_stays : (g : Getting) (f : Fetched) → MovesByFetched W old q g f new poll → Stays old new
-  fetched_stays g fetches.More m = stays_at old (record old { getting = g }) new m.1 (record { member = refl; shard = refl; calls = refl; known = λ h. h })
-  fetched_stays g fetches.Fault m = stays_at old (record old { getting = g }) new m.1 (record { member = refl; shard = refl; calls = refl; known = λ h. h })
+  fetched_stays g fetches.More m = stays_at old (record old { getting = g }) new m.1
+      (record { member = refl; shard = refl; calls = refl; known = λ h. h })
+  fetched_stays g fetches.Fault m = stays_at old (record old { getting = g }) new m.1
+      (record { member = refl; shard = refl; calls = refl; known = λ h. h })
   fetched_stays g (fetches.Missing key) m = stays_at old (record old { getting = g; stage = stages.Check key }) new m.1
       (record { member = refl; shard = refl; calls = refl; known = λ h. h })
   fetched_stays g (fetches.Damaged damage) m = stays_at old (record old { getting = g }) new m.1
       (record { member = refl; shard = refl; calls = refl; known = λ h. h })
-  fetched_stays g fetches.Done m = stays_at old (record old { getting = g }) new m.1 (record { member = refl; shard = refl; calls = refl; known = λ h. h })
+  fetched_stays g fetches.Done m = stays_at old (record old { getting = g }) new m.1
+      (record { member = refl; shard = refl; calls = refl; known = λ h. h })
 
   pub stays : HowRead W old q reply new poll → Stays old new
   stays (unscanned st r p n) = stays_at old old new n (record { member = refl; shard = refl; calls = refl; known = λ h. h })
-  stays (damaged vs damage st r e p n) = stays_at old old new n (record { member = refl; shard = refl; calls = refl; known = λ h. h })
+  stays (damaged vs damage st r e p n) = stays_at old old new n
+      (record { member = refl; shard = refl; calls = refl; known = λ h. h })
   stays (scanned vs k st r e by) = stays_at old (staged (holding old k) (sight_of W q k old.member)) new by.1
       (staged_stays k (sight_of W q k old.member))
-  stays (checked key vs k st r e p n) = stays_at old (holding old k) new n (record { member = refl; shard = refl; calls = refl; known = λ h. refl })
+  stays (checked key vs k st r e p n) = stays_at old (holding old k) new n
+      (record { member = refl; shard = refl; calls = refl; known = λ h. refl })
   stays (got g f st m how by) = fetched_stays g f by
 
   -- ---- what its call has done
@@ -105,7 +111,8 @@ module _ {Q A : Type 0} (W : Questions Q A) (old : Course) (q : Q) (reply : Repl
         go (Some k) some = (bytes_none reply b r, read k rows refl)
 
     got_did : (g : Getting) (f : Fetched) → HowGot old.getting reply g f → MovesByFetched W old q g f new poll → Does poll
-    got_did g f (gains b part r reads is (inl (x, left))) m = so polls.More (fetched g f fetches.More x m).0 (bytes_none reply (Some b) r)
+    got_did g f (gains b part r reads is (inl (x, left))) m = so polls.More (fetched g f fetches.More x m).0 (bytes_none reply
+        (Some b) r)
     got_did g f (gains b part r reads is (inr (x, done))) m = so (rows_poll W old q g.rows) (fetched g f fetches.Done x m).0
         (rows_did g.rows (Some b) r)
     got_did g f (fails r is x) m = so polls.Fault (fetched g f fetches.Fault x m).0 r
@@ -118,10 +125,15 @@ module _ {Q A : Type 0} (W : Questions Q A) (old : Course) (q : Q) (reply : Repl
     pub did : HowRead W old q reply new poll → Does poll
     did (unscanned st r p n) = so polls.Fault p r
     did (damaged vs damage st r e p n) = so (polls.Damaged damage) p tt
-    did (scanned vs k st r e by) = look_did k vs (sight_of W q k old.member) (subst IsScanStage (sym st) tt) r (how_sight W q k old.member) by.0
+    did (scanned vs k st r e by) = look_did k vs (sight_of W q k old.member) (subst IsScanStage (sym st) tt) r
+        (how_sight W q k old.member) by.0
     did (checked key vs k st r e p n) = so (missing_poll W (holding old k) q key) p
         (elim (bool_cases (is_gone old.member (Some k))) [
-          | inl e2 ↦ rw e2 (versions_none reply vs r, lapsed (number_of (Some k)) refl (shown vs (subst IsScanStage (sym st) tt) r))
+          | inl e2 ↦ rw e2 (
+            versions_none reply vs r,
+            lapsed (number_of (Some k)) refl (shown vs (subst IsScanStage
+                (sym st) tt) r),
+          )
           | inr e2 ↦ rw e2 tt
         ])
     did (got g f st m how by) = got_did g f how by

@@ -93,7 +93,8 @@ abbrev pub GoesBy : {Q A : Type 0} → Questions Q A → Course → Q → Sight 
 GoesBy W c q sight new poll = (poll ≡ sight_poll W c q sight) × (new ≡ staged c sight)
 
 -- what the versions of a Scan come to, by what their newest state does
-abbrev pub ComesTo : {A : Type 0} → Course → (ShardState → Course → Poll A → Type 0) → Result (Option ShardState) Damage → Course → Poll A →
+abbrev pub ComesTo : {A : Type 0} → Course → (ShardState → Course → Poll A → Type 0) → Result (Option ShardState) Damage →
+    Course → Poll A →
     Type 0
 ComesTo old does (Ok (Some s)) new poll = does s new poll
 ComesTo old does (Ok None) new poll = ⊥
@@ -121,7 +122,8 @@ rows_poll W c q rows = rows_by W c.loader.cached q rows
 abbrev pub MovesByFetched : {Q A : Type 0} → Questions Q A → Course → Q → Getting → Fetched → Course → Poll A → Type 0
 MovesByFetched W old q g fetches.More new poll = (poll ≡ polls.More) × (new ≡ record old { getting = g })
 MovesByFetched W old q g fetches.Fault new poll = (poll ≡ polls.Fault) × (new ≡ record old { getting = g })
-MovesByFetched W old q g (fetches.Missing key) new poll = (poll ≡ polls.More) × (new ≡ record old { getting = g; stage = stages.Check key })
+MovesByFetched W old q g (fetches.Missing key) new poll = (poll ≡ polls.More) ×
+    (new ≡ record old { getting = g; stage = stages.Check key })
 MovesByFetched W old q g (fetches.Damaged damage) new poll = (poll ≡ polls.Damaged damage) × (new ≡ record old { getting = g })
 MovesByFetched W old q g fetches.Done new poll = (poll ≡ rows_poll W old q g.rows) × (new ≡ record old { getting = g })
 

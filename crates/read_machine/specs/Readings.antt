@@ -105,7 +105,8 @@ pub record Did {Q A : Type 0} (W : Questions Q A) (k : ReadKept Q) (call : Call)
   pub reads : ReadsOf k.shard call
   pub did : IsSomeAnd k.asked (λ q. DidBy W q (IsShown k.shard call r) r poll)
 
-pub record Follows {Q A : Type 0} (W : Questions Q A) (client : ℕ) (r : Reading Q) (start : Stored) (es : List Entry) : Type 0 where
+pub record Follows {Q A : Type 0} (W : Questions Q A) (client : ℕ) (r : Reading Q) (start : Stored)
+    (es : List Entry) : Type 0 where
   pub shown : FollowsLoading r.course.loader (mine_back start es client)
   pub asked : IfSome r.asked (λ q. FollowsAsked W.kind client r.course start es)
 
@@ -132,7 +133,8 @@ words W = record {
   Effect = Did W;
   Follows = Follows W;
   Spares = λ r call. ⊤;
-  Legal = λ client k calls answer start es list. IfSome k.asked (λ q. W.Legal q k.shard k.member start (places client calls es) list answer);
+  Legal = λ client k calls answer start es list. IfSome k.asked (λ q. W.Legal q k.shard k.member start
+      (places client calls es) list answer);
   least = 0;
   CostAt = λ base client r start es list. r.course.calls < most → ReadCost client r.course r.course.stage es;
   CostOver = λ base client old new start es list. new.course.calls < most → OverStage client new.course old.course.stage es;
