@@ -2,10 +2,10 @@
 ghost use Rattle.read_client.specs.Reading.{IsSound as IsSoundReader};
 ghost use Rattle.write_client.specs.Writing.{IsSound as IsSoundWriter};
 
-use crate::untold_stores::UntoldStore;
 use read_client::{Poll, ReadAnswer, Reader};
 use std::alloc::{AllocError, Global};
 use store_core::DirectPort;
+use test_stores::UntoldStore;
 use write_client::{WriteAnswer, Writer};
 
 /// Polls the writer's open command as often as that, or until it ends or a call fails. It gives what the last poll came to; none

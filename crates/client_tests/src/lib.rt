@@ -2,10 +2,8 @@
 #![tactic(auto)]
 
 mod drives;
-mod untold_stores;
 
 pub use drives::{read_on, write_on};
-pub use untold_stores::UntoldStore;
 
 #[cfg(test)]
 mod scenes;

@@ -8,6 +8,7 @@ use read_client::{Poll, ReadAnswer, Reader};
 use std::alloc::Global;
 use std::test::Fail;
 use store_core::{Call, Entry, FaultAt, FaultList, MemStore, Outcome, ShardId};
+use test_stores::UntoldStore;
 use update_core::{Datum, Frontier, Update, UpdateList};
 use write_client::{WriteAnswer, Writer};
 

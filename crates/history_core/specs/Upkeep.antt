@@ -68,12 +68,14 @@ pub record MergedAs (start : Stored) (shard : ShardId) (member token version : �
 -- at the last Scan, of this version, the keeper stands and no pair is due
 abbrev pub NoneIsDue : Stored → ShardId → ℕ → ℕ → List Placed → Type 0
 NoneIsDue start shard member version ps =
-    AtLastScan shard (AtLast start shard (λ n s. (n ≡ version) × HasKeeper member (λ m. ⊤) s × (due_place (weights_of s.batches) ≡ None))) ps
+    AtLastScan shard (AtLast start shard (λ n s. (n ≡ version) × HasKeeper member (λ m. ⊤) s ×
+    (due_place (weights_of s.batches) ≡ None))) ps
 
 -- at the last Scan, of this version, the keeper stands with another token, and left followed by right doesn't stand
 abbrev pub PairIsGone : Stored → ShardId → ℕ → ℕ → Batch → Batch → ℕ → List Placed → Type 0
 PairIsGone start shard member token left right version ps =
-    AtLastScan shard (AtLast start shard (λ n s. (n ≡ version) × HasKeeper member (λ m. m.token ≢ token) s × (follows left right s.batches ≡ false))) ps
+    AtLastScan shard (AtLast start shard (λ n s. (n ≡ version) × HasKeeper member (λ m. m.token ≢ token) s ×
+    (follows left right s.batches ≡ false))) ps
 
 -- a merge of two batches was tried, and they are gone
 abbrev pub IsSuperseded : Stored → ShardId → ℕ → ℕ → ℕ → List Placed → Type 0
@@ -83,13 +85,16 @@ IsSuperseded start shard member token version ps =
 
 -- to a command of a member, with the token that was drawn
 abbrev pub LegalOfCompactor : Stored → ShardId → ℕ → ℕ → List Placed → Asked → MergeAnswer → Type 0
-LegalOfCompactor start shard member token ps asks.Merge (merges.Merged version) = Among (MergedAs start shard member token version) ps
+LegalOfCompactor start shard member token ps asks.Merge (merges.Merged version) =
+    Among (MergedAs start shard member token version) ps
 LegalOfCompactor start shard member token ps asks.Merge (merges.NothingDue version) = NoneIsDue start shard member version ps
-LegalOfCompactor start shard member token ps asks.Merge (merges.Superseded version) = IsSuperseded start shard member token version ps
+LegalOfCompactor start shard member token ps asks.Merge (merges.Superseded version) =
+    IsSuperseded start shard member token version ps
 LegalOfCompactor start shard member token ps asks.Merge (merges.Expired version) = Absent start shard member version ps
 LegalOfCompactor start shard member token ps (asks.RenewCompactor now) (merges.Renewed version) =
     Among (CommittedAs start shard (Renew member now) version) ps
-LegalOfCompactor start shard member token ps (asks.RenewCompactor now) (merges.Expired version) = Absent start shard member version ps
+LegalOfCompactor start shard member token ps (asks.RenewCompactor now) (merges.Expired version) =
+    Absent start shard member version ps
 LegalOfCompactor start shard member token ps asks.CloseCompactor (merges.Closed version) = Left start shard member version ps
 LegalOfCompactor _ _ _ _ _ _ _ = ⊥
 
@@ -98,7 +103,8 @@ abbrev pub LegalMergeAt : Stored → Command → List Placed → Asked → Merge
 LegalMergeAt start c ps (asks.OpenCompactor shard now lease) (merges.Opened member version) =
     KeeperJoined start shard now lease member version ps
 LegalMergeAt start c ps (asks.OpenCompactor shard now lease) (merges.MembersFull version) = Full start shard version ps
-LegalMergeAt start c ps asked answer = IsSomeAnd c.member (λ member. LegalOfCompactor start c.shard member c.token ps asked answer)
+LegalMergeAt start c ps asked answer =
+    IsSomeAnd c.member (λ member. LegalOfCompactor start c.shard member c.token ps asked answer)
 
 -- ---- a collector
 
@@ -148,7 +154,8 @@ out_numbers now (m ∷ ms) = if is_out now m then m.number ∷ out_numbers now m
 -- a Cas committed the expiry, of the members whose lease had run out in the state before
 abbrev pub RemovedAt : Stored → ShardId → ℕ → List ℕ → Placed → Type 0
 RemovedAt start shard now members p =
-    ((version : ℕ) × CommittedAs start shard (Expire now) version p) × AtLast start shard (λ n s. members ≡ out_numbers now s.members) p
+    ((version : ℕ) × CommittedAs start shard (Expire now) version p) ×
+    AtLast start shard (λ n s. members ≡ out_numbers now s.members) p
 
 -- no lease has run out in the last version, which is this one; or there is none
 abbrev pub NoneDueAt : Stored → ShardId → ℕ → ℕ → Placed → Type 0

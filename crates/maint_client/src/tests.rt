@@ -6,7 +6,6 @@ ghost use Rattle.try_machine.specs.Tryers.{IsSound};
 ghost use Rattle.maint_client.specs.Expiring.{expiring};
 
 use super::*;
-use crate::untold_stores::UntoldStore;
 use load_core::{Attempt, Ready, first_version};
 use state_core::{Kind, Transition};
 use std::alloc::{AllocError, Global};
@@ -14,6 +13,7 @@ use std::test::Fail;
 use store_core::{
     BlobList, Bytes, BytesList, DirectPort, FaultAt, FaultList, MemStore, ShardId, ShardList,
 };
+use test_stores::UntoldStore;
 
 const SHARD: ShardId = ShardId(1);
 

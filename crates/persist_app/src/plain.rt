@@ -7,7 +7,8 @@ ghost use Rattle.driving.specs.StoreTurns.{Extends, StoreFailed};
 ghost use Rattle.store_core.specs.declared.shards.ShardId.{ShardId};
 ghost use Rattle.plain_run.specs.Answering.{AreApart};
 ghost use Rattle.plain_run.specs.Endings.{FoundFull, FoundSpent, NoCollection, ReadsFeed, RunsPlainly, StaysLawful};
-ghost use Rattle.persist_app.specs.Endings.{EndsWith, Finishes, IsRun, IsStatus, NoRun, Performs, RefusesLine, RunsOn, Spares, input_failed_text, words_text};
+ghost use Rattle.persist_app.specs.Endings.{EndsWith, Finishes, IsRun, IsStatus, NoRun, Performs, RefusesLine, RunsOn, Spares};
+ghost use Rattle.persist_app.specs.Endings.{input_failed_text, words_text};
 
 use crate::clocks::Clock;
 use crate::ends::Ended;
@@ -113,10 +114,10 @@ fn perform<So: Source, Si: Sink, S: Store>(
     }
 }
 
-/// Does what the words say, over a source, a sink and a store. The one command is `run`, of the shard that its words name: it reads a
-/// feed and writes the replies to it, and keeps the accepted updates in the store, on that shard. It starts from what the store holds
-/// there, as client 0 that writes and client 1 that reads, and leaves as both. See docs/DEFINITIONS.md, "Words", "Plain runs" and
-/// "Statuses".
+/// Does what the words say, over a source, a sink and a store. The one command is `run`, of the shard that its words name: it
+/// reads a feed and writes the replies to it, and keeps the accepted updates in the store, on that shard. It starts from what the
+/// store holds there, as client 0 that writes and client 1 that reads, and leaves as both. See docs/DEFINITIONS.md, "Words",
+/// "Plain runs" and "Statuses".
 pub fn persist_plain<So: Source, Si: Sink, S: Store, K: Clock>(
     alloc: Global,
     words: &Vec<String>,
@@ -130,7 +131,8 @@ pub fn persist_plain<So: Source, Si: Sink, S: Store, K: Clock>(
     // list, the plain run of that feed from the store's view is written, and nothing else; and the store that is given back
     // stands for the updates that the plain run ends with.
     ensures complete { result.status ≡ 0 → RunsOn (map string_bytes words.now.items) (λ shard.
-        RunsPlainly shard (S.history store) (S.history result.store) (So.left src.old) (So.left src.new) (Si.taken out.old) (Si.taken out.new)) }
+        RunsPlainly shard (S.history store) (S.history result.store) (So.left src.old) (So.left src.new)
+        (Si.taken out.old) (Si.taken out.new)) }
     // 2: the words are no command.
     ensures no_command { result.status ≡ 2 → NoRun (map string_bytes words.now.items)
         × Gains (Si.taken out.old) (Si.taken out.new) words_text }
@@ -145,7 +147,8 @@ pub fn persist_plain<So: Source, Si: Sink, S: Store, K: Clock>(
     // 6, and 9 to 11: the words are the command's, and the text was read to its end and spells a feed.
     // 6: a store call failed; where the history is told, it is the last call.
     ensures store_failed { result.status ≡ 6 → RunsOn (map string_bytes words.now.items) (λ shard.
-        ReadsFeed (So.left src.old) (So.left src.new) × StoreFailed (S.history result.store) (S.faults store) (S.faults result.store)) }
+        ReadsFeed (So.left src.old) (So.left src.new)
+        × StoreFailed (S.history result.store) (S.faults store) (S.faults result.store)) }
     // 9: never where the history is told, lawful and from a start that stands for a list.
     ensures damaged { result.status ≡ 9 → RunsOn (map string_bytes words.now.items) (λ shard.
         ReadsFeed (So.left src.old) (So.left src.new) × NoCollection shard (S.history store) (S.history result.store)) }

@@ -1,10 +1,8 @@
 -- Which polls come of a reply, and which call a reader makes.
-use Rattle.std.proofs.Common.{◌≡◌, ◌≢◌, ℕ, true, false, Option, Some, None, List, refl, sym, ap, subst, ◌∙◌}
-use Rattle.std.specs.Prelude.{IsSome, IfSome, IsSomeAnd}
+use Rattle.std.proofs.Common.{◌≡◌, ◌≢◌, ℕ, true, false, Option, Some, None, List, refl, sym, subst}
+use Rattle.std.specs.Prelude.{⊤, IsSome, IfSome, IsSomeAnd}
 use Rattle.update_core.specs.Frontiers.{after}
-use Rattle.store_core.specs.declared.shards.ShardId.{ShardId}
 use Rattle.store_core.specs.declared.calls.Call.{Call}
-use Rattle.store_core.specs.declared.calls.Call.TheVariants as calls
 use Rattle.store_core.specs.declared.replies.Reply.{Reply}
 use Rattle.store_core.specs.declared.replies.Reply.TheVariants as replies
 use Rattle.store_core.specs.Ports.{Answered}
@@ -30,64 +28,53 @@ use Rattle.load_core.proofs.Firsts.{tried_first}
 use Rattle.load_core.proofs.Following.{tried_allowed}
 use Rattle.load_core.proofs.Replied.{tried_failed}
 use Rattle.load_core.proofs.TryFacts.{tried_carries, tried_fault}
-use Rattle.read_machine.specs.Readings.{ReadsOf}
 use Rattle.read_machine.proofs.Sound.{Ends}
 use Rattle.read_client.specs.declared.questions.Question.{Question}
 use Rattle.read_client.specs.declared.questions.Question.TheVariants as questions
 use Rattle.read_client.specs.declared.readers.Reader.{Reader}
 use Rattle.read_client.specs.Asking.{question_of, step_question}
 use Rattle.read_client.specs.Machining.{Opens}
-use Rattle.read_client.specs.Reading.{AsksAs, IsAsked, IsOpen, IsSound, MovesAfterTry, call_by, call_of, question, shard_of, verdict}
+use Rattle.read_client.specs.Reading.{AsksAs, IsAsked, IsOpen, IsSound, MovesAfterTry, call_by, call_of, question, shard_of}
+use Rattle.read_client.specs.Reading.{verdict}
 use Rattle.read_client.proofs.Sound.{committed_ends, refused_ends}
 
 -- ---- which polls come of a reply to a transition
 
 -- not Busy, and Fault only of a reply that failed
-data Comes (reply : Reply) (poll : Poll ReadAnswer) : Type 0 where
-  more : reply ≢ replies.Failed → poll ≡ polls.More → Comes reply poll
-  fault : reply ≡ replies.Failed → poll ≡ polls.Fault → Comes reply poll
-  ends : Ends poll → Comes reply poll
+abbrev ComesBy : Reply → Poll ReadAnswer → Type 0
+ComesBy reply polls.Busy = ⊥
+ComesBy reply polls.More = reply ≢ replies.Failed
+ComesBy reply polls.Fault = reply ≡ replies.Failed
+ComesBy reply _ = ⊤
 
-comes : (old new : Reader) (reply : Reply) (poll : Poll ReadAnswer) → MovesAfterTry old reply new poll → Comes reply poll
-comes old new reply poll (t, tried, asked, m, asked_is, poll_is, new_is) = go tried m poll_is
+ends_so : (reply : Reply) (poll : Poll ReadAnswer) → Ends poll → ComesBy reply poll
+ends_so reply polls.Busy over = over
+ends_so reply polls.More over = absurd over
+ends_so reply polls.Fault over = absurd over
+ends_so reply polls.Spent over = tt
+ends_so reply (polls.Damaged damage) over = tt
+ends_so reply (polls.Done answer) over = tt
+
+pub try_comes : (old new : Reader) (reply : Reply) (poll : Poll ReadAnswer) → MovesAfterTry old reply new poll →
+    ComesBy reply poll
+try_comes old new reply poll (t, tried, asked, m, asked_is, poll_is, new_is) = subst (ComesBy reply) (sym poll_is) (go tried m)
   where
     -- a failed call comes to a fault
     no : (k : Tried) → trying.Moves old.trying reply t k → (k ≡ tries.Fault → ⊥) → reply ≢ replies.Failed
-    no k moves other failed = other (tried_failed old.trying t k (subst (λ (r : Reply). trying.Moves old.trying r t k) failed moves))
+    no k moves other failed = other (tried_failed old.trying t k (subst (λ
+        (r : Reply). trying.Moves old.trying r t k) failed moves))
 
-    go : (k : Tried) → trying.Moves old.trying reply t k → poll ≡ verdict (record old { trying = t }) asked k → Comes reply poll
-    go tries.Begun moves e = more (no tries.Begun moves (λ is. let bad : tries.Begun ≡ tries.Fault = is in cc)) e
-    go tries.Again moves e = more (no tries.Again moves (λ is. let bad : tries.Again ≡ tries.Fault = is in cc)) e
-    go tries.Goes moves e = more (no tries.Goes moves (λ is. let bad : tries.Goes ≡ tries.Fault = is in cc)) e
-    go tries.Fault moves e = fault (tried_fault old.trying t reply moves) e
-    go (tries.Committed version) moves e = ends (subst Ends (sym e) (committed_ends (record old { trying = t }) asked version))
-    go (tries.Refused refusal) moves e = ends (subst Ends (sym e) (refused_ends (record old { trying = t }) asked refusal))
-    go tries.Spent moves e = ends (subst Ends (sym e) tt)
-    go (tries.Damaged damage) moves e = ends (subst Ends (sym e) tt)
-
-pub try_busy : (old new : Reader) (reply : Reply) → ¬ MovesAfterTry old reply new polls.Busy
-try_busy old new reply m = no (comes old new reply polls.Busy m)
-  where
-    no : Comes reply polls.Busy → ⊥
-    no (more a e) = let bad : polls.Busy ≡ polls.More = e in cc
-    no (fault f e) = let bad : polls.Busy ≡ polls.Fault = e in cc
-    no (ends o) = o
-
-pub try_fault : (old new : Reader) (reply : Reply) → MovesAfterTry old reply new polls.Fault → reply ≡ replies.Failed
-try_fault old new reply m = go (comes old new reply polls.Fault m)
-  where
-    go : Comes reply polls.Fault → reply ≡ replies.Failed
-    go (more a e) = absurd (let bad : polls.Fault ≡ polls.More = e in cc)
-    go (fault f e) = f
-    go (ends o) = absurd o
-
-pub try_more : (old new : Reader) (reply : Reply) → MovesAfterTry old reply new polls.More → reply ≢ replies.Failed
-try_more old new reply m = go (comes old new reply polls.More m)
-  where
-    go : Comes reply polls.More → reply ≢ replies.Failed
-    go (more a e) = a
-    go (fault f e) = absurd (let bad : polls.More ≡ polls.Fault = e in cc)
-    go (ends o) = absurd o
+    go : (k : Tried) → trying.Moves old.trying reply t k → ComesBy reply (verdict (record old { trying = t }) asked k)
+    go tries.Begun moves = no tries.Begun moves (λ is. let bad : tries.Begun ≡ tries.Fault = is in cc)
+    go tries.Again moves = no tries.Again moves (λ is. let bad : tries.Again ≡ tries.Fault = is in cc)
+    go tries.Goes moves = no tries.Goes moves (λ is. let bad : tries.Goes ≡ tries.Fault = is in cc)
+    go tries.Fault moves = tried_fault old.trying t reply moves
+    go (tries.Committed version) moves = ends_so reply (verdict (record old { trying = t }) asked (tries.Committed version))
+        (committed_ends (record old { trying = t }) asked version)
+    go (tries.Refused refusal) moves = ends_so reply (verdict (record old { trying = t }) asked (tries.Refused refusal))
+        (refused_ends (record old { trying = t }) asked refusal)
+    go tries.Spent moves = tt
+    go (tries.Damaged damage) moves = tt
 
 -- ---- its call
 
@@ -96,33 +83,19 @@ pub tries_call : (r : Reader) (call : Call) → question r ≡ None → call_of 
 tries_call r call none e = let f : Some (trying.call_of r.trying) ≡ Some call =
     subst (λ (q : Option Question). call_by r q ≡ Some call) none e in cc
 
--- a Scan or a Get of the shard carries nothing, and makes no first version
-pub reads_carry : (shard : ShardId) (step : Transition) (call : Call) → ReadsOf shard call → OnlyCarries shard step call
-reads_carry shard step (calls.Scan at from) h = tt
-reads_carry shard step (calls.Get key) h = tt
-reads_carry shard step (calls.Head at) h = absurd h
-reads_carry shard step (calls.Cas at expected bytes) h = absurd h
-reads_carry shard step (calls.Truncate at below) h = absurd h
-reads_carry shard step (calls.Set key bytes) h = absurd h
-reads_carry shard step (calls.Delete key) h = absurd h
-
-pub reads_first : (P : Type 0) (shard : ShardId) (call : Call) → ReadsOf shard call → MakesFirst P shard call
-reads_first P shard (calls.Scan at from) h = tt
-reads_first P shard (calls.Get key) h = tt
-reads_first P shard (calls.Head at) h = absurd h
-reads_first P shard (calls.Cas at expected bytes) h = absurd h
-reads_first P shard (calls.Truncate at below) h = absurd h
-reads_first P shard (calls.Set key bytes) h = absurd h
-reads_first P shard (calls.Delete key) h = absurd h
-
-pub try_carries : (r : Reader) (call : Call) → IsSound r → question r ≡ None → call_of r ≡ Some call → OnlyCarries (shard_of r) r.trying.step call
-try_carries r call s none e = subst (OnlyCarries (shard_of r) r.trying.step) (sym (tries_call r call none e)) (tried_carries r.trying s.trying)
+pub try_carries : (r : Reader) (call : Call) → IsSound r → question r ≡ None → call_of r ≡ Some call →
+    OnlyCarries (shard_of r) r.trying.step call
+try_carries r call s none e = subst (OnlyCarries (shard_of r) r.trying.step) (sym (tries_call r call none e))
+    (tried_carries r.trying s.trying)
 
 -- a shard's first version is made by an open alone, since a member was seen to join
-pub try_first : (r : Reader) (call : Call) → IsSound r → IsOpen r → question r ≡ None → call_of r ≡ Some call → MakesFirst (Opens r.asked) (shard_of r) call
-try_first r call s is_open unasked e = subst (MakesFirst (Opens r.asked) (shard_of r)) (sym (tries_call r call unasked e)) (tried_first (Opens r.asked) r.trying s.trying opens)
+pub try_first : (r : Reader) (call : Call) → IsSound r → IsOpen r → question r ≡ None → call_of r ≡ Some call →
+    MakesFirst (Opens r.asked) (shard_of r) call
+try_first r call s is_open unasked e = subst (MakesFirst (Opens r.asked) (shard_of r)) (sym (tries_call r call unasked e))
+    (tried_first (Opens r.asked) r.trying s.trying opens)
   where
-    known : {P : Type 0} → r.trying.loader.cached ≡ None → (o : Option ℕ) → IfSome o (λ member. IsSome r.trying.loader.cached) → IsSome o → P
+    known : {P : Type 0} → r.trying.loader.cached ≡ None → (o : Option ℕ) → IfSome o (λ member. IsSome r.trying.loader.cached) →
+        IsSome o → P
     known none None h some = absurd (let bad : false ≡ true = some in cc)
     known none (Some member) h some = absurd (let bad : false ≡ true = subst (λ (c : Option ShardState). IsSome c) none h in cc)
 
@@ -139,9 +112,12 @@ try_first r call s is_open unasked e = subst (MakesFirst (Opens r.asked) (shard_
         of (Some (asks.Snapshot t)) o k = known none r.member (s.known unasked) k
         of (Some (asks.Listen as_of)) o k = known none r.member (s.known unasked) k.0
         of (Some asks.Next) o k = known none r.member (s.known unasked) k.0
-        of (Some (asks.Advance to)) o k = known none r.member (s.known unasked) (some_member r.member (λ member. r.trying.step ≡ Advance member to) k)
-        of (Some (asks.RenewReader now)) o k = known none r.member (s.known unasked) (some_member r.member (λ member. r.trying.step ≡ Renew member now) k)
-        of (Some asks.CloseReader) o k = known none r.member (s.known unasked) (some_member r.member (λ member. r.trying.step ≡ Leave member) k)
+        of (Some (asks.Advance to)) o k = known none r.member (s.known unasked) (some_member r.member
+            (λ member. r.trying.step ≡ Advance member to) k)
+        of (Some (asks.RenewReader now)) o k = known none r.member (s.known unasked) (some_member r.member
+            (λ member. r.trying.step ≡ Renew member now) k)
+        of (Some asks.CloseReader) o k = known none r.member (s.known unasked) (some_member r.member
+            (λ member. r.trying.step ≡ Leave member) k)
         of (Some other) o k = absurd k
 
 -- ---- what its call is allowed by
@@ -182,7 +158,8 @@ holds_next nexts.Attempt x own h = tt
 holds_next nexts.Scan x own h = tt
 holds_next (nexts.Cas r) x own h = h
 
-pub try_allowed : (r : Reader) (call : Call) (own : List Answered) → IsOpen r → IsSound r → question r ≡ None → call_of r ≡ Some call →
+pub try_allowed : (r : Reader) (call : Call) (own : List Answered) → IsOpen r → IsSound r → question r ≡ None →
+    call_of r ≡ Some call →
     FollowsTrying r.trying own → Allows own call
 try_allowed r call own is_open s none e f = subst (Allows own) (sym (tries_call r call none e))
     (tried_allowed r.trying own s.trying f (holds_next r.trying.next r.trying.step own (steps_free r is_open s none own)))

@@ -33,9 +33,11 @@ use Rattle.read_client.specs.declared.questions.Question.{Question}
 use Rattle.read_client.specs.declared.readers.Reader.{Reader}
 use Rattle.read_client.specs.Asking.{question_of}
 use Rattle.read_client.specs.Following.{Follows}
-use Rattle.read_client.specs.Reading.{AsksAs, IsSound, MovesAfterTry, call_by, call_of, change_poll, own_member, question, shard_of}
+use Rattle.read_client.specs.Reading.{AsksAs, IsSound, MovesAfterTry, call_by, call_of, change_poll, own_member, question}
+use Rattle.read_client.specs.Reading.{shard_of}
 use Rattle.read_client.proofs.Changing.{Changed, opens, advances, renews, closes, changed, changed_at}
-use Rattle.read_client.proofs.LegalPolls.{LegalOf, LegalPoll, after_calls, legal_poll}
+use Rattle.read_client.proofs.LegalPolls.{LegalOf, LegalPoll, legal_poll}
+use Rattle.read_client.proofs.Sound.{kept_trying}
 
 -- ---- what the outcomes mean
 
@@ -154,7 +156,8 @@ module _ (client : ℕ) (r : Reader) (list : List Update) (start : Stored) (e : 
       named member is = ap (λ (o : Option ℕ). unwrap_or o 0) is
 
       by : Changed r asked → LegalAs asked
-      by (opens shard start_at lease is same step) = subst LegalAs (sym (is ∙ ap (λ (d : ShardId). asks.OpenReader d start_at lease) same))
+      by (opens shard start_at lease is same step) = subst LegalAs (sym (is
+          ∙ ap (λ (d : ShardId). asks.OpenReader d start_at lease) same))
           (open_means client r list start e others es t.calls (own_member r) start_at lease now Came
           (fits (Join AsReader start_at lease) step)
           (means (own_member r) (Join AsReader start_at lease) refl step))
@@ -173,14 +176,18 @@ pub change_legal : (client : ℕ) (r new : Reader) (poll : Poll ReadAnswer) (lis
     (others es : List Entry) → IsSound r → Follows client r start es → e.client ≡ client →
     call_of r ≡ Some e.call → OfOthers client others → StandsFor start (shard_of r) list → LawfulBack start (e ∷ (others ++ es)) →
     question r ≡ None →
-    MovesAfterTry r (reply (replay_back start (others ++ es)) e) new poll → LegalPoll client r new poll start (e ∷ (others ++ es)) list
+    MovesAfterTry r (reply (replay_back start (others ++ es)) e) new poll →
+    LegalPoll client r new poll start (e ∷ (others ++ es)) list
 change_legal client r new poll list start e others es sound f own call of st lawful none (t, tried, asked, moves, is, told, now) =
-    let call2 : Some (trying.call_of r.trying) ≡ Some e.call = subst (λ (q : Option Question). call_by r q ≡ Some e.call) none call in
+    let call2 : Some (trying.call_of r.trying) ≡ Some e.call = subst (λ
+    (q : Option Question). call_by r q ≡ Some e.call) none call in
     let made : e.call ≡ trying.call_of r.trying = cc in
     let asks : AsksAs (shard_of r) r.member r.trying.step r.listen asked =
     subst (λ (o : Option Asked). IfSome o (λ a. AsksAs (shard_of r) r.member r.trying.step r.listen a)) is sound.asked in
     let none2 : question_of (Some asked) r.listen ≡ None = subst (λ (o : Option Asked). question_of o r.listen ≡ None) is none in
-    let counts : new.trying.calls ≡ t.calls = ap (λ (x : Reader). x.trying.calls) now ∙ after_calls (record r { trying = t }) poll in
+    let counts : new.trying.calls ≡ t.calls = ap (λ (x : Reader). x.trying.calls) now
+    ∙ ap (λ (x : Trying). x.calls) (kept_trying (record r { trying = t }) poll) in
     legal_poll client r list start e others es t.calls new asked poll counts is
     (subst (LegalOf client r list start e others es t.calls asked) (sym told)
-    (changed_legal client r list start e others es sound f own made of st lawful t tried moves asked (changed r asked none2 asks)))
+    (changed_legal client r list start e others es sound f own made of st lawful t tried moves asked
+    (changed r asked none2 asks)))

@@ -1,6 +1,6 @@
 -- A reader's open, close, renewal and advance are changes of its member. Entries go newest first.
 use Rattle.std.proofs.Common.{◌≡◌, ℕ, true, false, Option, Some, None, List, ◌∷◌, ◌++◌, refl, sym, ap, subst, ◌∙◌}
-use Rattle.std.specs.Prelude.{IfSome, IsSome, IsSomeAnd, unwrap_or}
+use Rattle.std.specs.Prelude.{IfSome, IsSome, unwrap_or}
 use Rattle.update_core.specs.declared.updates.Update.{Update}
 use Rattle.update_core.specs.Frontiers.{after}
 use Rattle.store_core.specs.declared.entries.Entry.{Entry}
@@ -19,16 +19,12 @@ use Rattle.history_core.specs.Stands.{StandsFor}
 use Rattle.load_core.specs.Trying as trying
 use Rattle.change_core.specs.Changes.{IsChange, IsOfMember}
 use Rattle.change_core.specs.Legality.{ChangesAt}
+use Rattle.read_machine.proofs.Legality.{some_is}
 use Rattle.read_client.specs.declared.questions.Question.TheVariants as questions
 use Rattle.read_client.specs.declared.readers.Reader.{Reader}
 use Rattle.read_client.specs.Asking.{question_of, step_question}
 use Rattle.read_client.specs.Following.{Follows}
 use Rattle.read_client.specs.Reading.{AsksAs, IsSound, own_member, shard_of}
-
--- the value that is there
-pub some_is : {A : Type 0} (P : A → Type 0) (o : Option A) → IsSomeAnd o P → (x : A) × (o ≡ Some x) × P x
-some_is P None h = absurd h
-some_is P (Some x) h = (x, refl, h)
 
 pub is_there : {A : Type 0} (o : Option A) → IsSome o → (x : A) × (o ≡ Some x)
 is_there None h = absurd (let bad : false ≡ true = h in cc)
@@ -38,8 +34,10 @@ is_there (Some x) h = (x, refl)
 pub data Changed (r : Reader) (asked : Asked) : Type 0 where
   opens : (shard : ShardId) (now lease : ℕ) → asked ≡ asks.OpenReader shard now lease → shard ≡ shard_of r →
       r.trying.step ≡ Join AsReader now lease → Changed r asked
-  advances : (to member : ℕ) → asked ≡ asks.Advance to → r.member ≡ Some member → r.trying.step ≡ Advance member to → Changed r asked
-  renews : (now member : ℕ) → asked ≡ asks.RenewReader now → r.member ≡ Some member → r.trying.step ≡ Renew member now → Changed r asked
+  advances : (to member : ℕ) → asked ≡ asks.Advance to → r.member ≡ Some member → r.trying.step ≡ Advance member to →
+      Changed r asked
+  renews : (now member : ℕ) → asked ≡ asks.RenewReader now → r.member ≡ Some member → r.trying.step ≡ Renew member now →
+      Changed r asked
   closes : (member : ℕ) → asked ≡ asks.CloseReader → r.member ≡ Some member → r.trying.step ≡ Leave member → Changed r asked
 
 pub changed : (r : Reader) (asked : Asked) → question_of (Some asked) r.listen ≡ None →
@@ -72,7 +70,8 @@ leave_change : (member : ℕ) → IsChange AsReader member (Leave member)
 leave_change member = record { changes = refl; shaped = λ s. refl }
 
 module _ (client : ℕ) (r : Reader) (list : List Update) (start : Stored) (e : Entry) (others es : List Entry) (sound : IsSound r)
-    (f : Follows client r start es) (own : e.client ≡ client) (call : e.call ≡ trying.call_of r.trying) (of : OfOthers client others)
+    (f : Follows client r start es) (own : e.client ≡ client) (call : e.call ≡ trying.call_of r.trying)
+    (of : OfOthers client others)
     (st : StandsFor start (shard_of r) list) (lawful : LawfulBack start (e ∷ (others ++ es))) where
   abbrev Changes : ℕ → Type 0
   Changes member = ChangesAt AsReader member r.trying client list start e others es
@@ -105,6 +104,7 @@ module _ (client : ℕ) (r : Reader) (list : List Update) (start : Stored) (e : 
   changed_at asked (opens shard now lease is same step) =
       changes (own_member r) (subst (IsChange AsReader (own_member r)) (sym step) (join_change (own_member r) now lease))
       (λ of. absurd (let join : IsOfMember (Join AsReader now lease) = subst IsOfMember step of in join))
-  changed_at asked (advances to member is own_is step) = of_member member (Advance member to) own_is step (advance_change member to)
+  changed_at asked (advances to member is own_is step) = of_member member (Advance member to) own_is step
+      (advance_change member to)
   changed_at asked (renews now member is own_is step) = of_member member (Renew member now) own_is step (renew_change member now)
   changed_at asked (closes member is own_is step) = of_member member (Leave member) own_is step (leave_change member)

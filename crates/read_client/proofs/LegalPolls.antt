@@ -1,5 +1,5 @@
 -- What a poll of a reader comes to is legal, taken apart by what was asked. Entries go newest first.
-use Rattle.std.proofs.Common.{◌≡◌, ℕ, ◌<◌, Option, Some, None, List, ◌∷◌, ◌++◌, refl, sym, subst}
+use Rattle.std.proofs.Common.{◌≡◌, ℕ, ◌<◌, Option, Some, List, ◌∷◌, ◌++◌, sym, subst}
 use Rattle.std.specs.Prelude.{⊤, IfSome}
 use Rattle.update_core.specs.declared.updates.Update.{Update}
 use Rattle.store_core.specs.declared.entries.Entry.{Entry}
@@ -15,16 +15,7 @@ use Rattle.machine_core.specs.Machines as machines
 use Rattle.read_client.specs.declared.readers.Reader.{Reader}
 use Rattle.read_client.specs.Machining.{command_in, kept, machine}
 use Rattle.read_client.specs.Polling.{ReadsParts}
-use Rattle.read_client.specs.Reading.{after_poll, shard_of}
-
--- the machine goes on with the calls that it has counted
-pub after_calls : (r : Reader) (poll : Poll ReadAnswer) → (after_poll r poll).trying.calls ≡ r.trying.calls
-after_calls r polls.Busy = refl
-after_calls r polls.More = refl
-after_calls r polls.Fault = refl
-after_calls r (polls.Damaged damage) = refl
-after_calls r polls.Spent = refl
-after_calls r (polls.Done answer) = refl
+use Rattle.read_client.specs.Reading.{shard_of}
 
 -- what a poll of a reader comes to is legal
 abbrev pub LegalPoll : ℕ → Reader → Reader → Poll ReadAnswer → Stored → List Entry → List Update → Type 0
@@ -37,17 +28,24 @@ module _ (client : ℕ) (r : Reader) (list : List Update) (start : Stored) (e : 
 
   -- LegalPoll for this command, after so many calls
   abbrev pub LegalOf : Asked → Poll ReadAnswer → Type 0
-  LegalOf asked (polls.Done answer) = calls < most → LegalReadBack list start all (command_in client (kept r) asked calls) answer × ReadsParts client (shard_of r) calls answer start all asked
-  LegalOf asked polls.Spent = calls < most → AtLastScan (shard_of r) (AtLast start (shard_of r) (λ n s. n ≡ most)) (places client calls all)
+  LegalOf asked (polls.Done answer) = calls < most → LegalReadBack list start all (command_in client
+      (kept r) asked calls) answer × ReadsParts client (shard_of r) calls answer start all asked
+  LegalOf asked polls.Spent = calls < most → AtLastScan (shard_of r) (AtLast start (shard_of r) (λ n s. n ≡ most))
+      (places client calls all)
   LegalOf asked (polls.Damaged damage) = ⊥
   LegalOf asked _ = ⊤
 
-  pub legal_poll : (new : Reader) (asked : Asked) (poll : Poll ReadAnswer) → new.trying.calls ≡ calls → r.asked ≡ Some asked → LegalOf asked poll → LegalPoll client r new poll start all list
+  pub legal_poll : (new : Reader) (asked : Asked) (poll : Poll ReadAnswer) → new.trying.calls ≡ calls → r.asked ≡ Some asked →
+      LegalOf asked poll → LegalPoll client r new poll start all list
   legal_poll new asked (polls.Done answer) c a h = λ less.
-      subst (λ (n : ℕ). IfSome r.asked (λ asked. LegalReadBack list start all (command_in client (kept r) asked n) answer × ReadsParts client (shard_of r) n answer start all asked)) (sym c)
-      (subst (λ (o : Option Asked). IfSome o (λ asked. LegalReadBack list start all (command_in client (kept r) asked calls) answer × ReadsParts client (shard_of r) calls answer start all asked)) (sym a) (h (subst (λ (n : ℕ). n < most) c less)))
+      subst (λ (n : ℕ). IfSome r.asked (λ asked. LegalReadBack list start all (command_in client
+      (kept r) asked n) answer × ReadsParts client (shard_of r) n answer start all asked)) (sym c)
+      (subst (λ (o : Option Asked). IfSome o (λ asked. LegalReadBack list start all (command_in client
+      (kept r) asked calls) answer × ReadsParts client (shard_of r) calls answer start all asked)) (sym a) (h (subst (λ
+      (n : ℕ). n < most) c less)))
   legal_poll new asked polls.Spent c a h = λ less.
-      subst (λ (n : ℕ). AtLastScan (shard_of r) (AtLast start (shard_of r) (λ n s. n ≡ most)) (places client n all)) (sym c) (h (subst (λ (n : ℕ). n < most) c less))
+      subst (λ (n : ℕ). AtLastScan (shard_of r) (AtLast start (shard_of r) (λ n s. n ≡ most)) (places client n all)) (sym c) (h
+      (subst (λ (n : ℕ). n < most) c less))
   legal_poll new asked (polls.Damaged damage) c a h = h
   legal_poll new asked polls.Busy c a h = tt
   legal_poll new asked polls.More c a h = tt

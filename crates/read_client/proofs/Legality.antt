@@ -19,11 +19,14 @@ use Rattle.read_client.proofs.Effects.{counted_more}
 use Rattle.read_client.proofs.LegalPolls.{LegalPoll}
 use Rattle.read_client.proofs.QuestionLegality.{read_legal}
 
--- A reader that follows makes its call after entries of others. What a reply comes to is then legal: each answer is the collection's
+-- A reader that follows makes its call after entries of others. What a reply comes to is then legal: each answer is the
+-- collection's
 -- at its place, where rows are answered each part was got since the Scan, Spent has its cause, and nothing is damaged.
-pub legal_step : (client : ℕ) (r new : Reader) (poll : Poll ReadAnswer) (list : List Update) (start : Stored) (e : Entry) (others es : List Entry) →
+pub legal_step : (client : ℕ) (r new : Reader) (poll : Poll ReadAnswer) (list : List Update) (start : Stored) (e : Entry)
+    (others es : List Entry) →
     IsOpen r → IsSound r → Follows client r start es → e.client ≡ client → call_of r ≡ Some e.call → OfOthers client others →
-    StandsFor start (shard_of r) list → LawfulBack start (e ∷ (others ++ es)) → Moves r (reply (replay_back start (others ++ es)) e) new poll →
+    StandsFor start (shard_of r) list → LawfulBack start (e ∷ (others ++ es)) →
+    Moves r (reply (replay_back start (others ++ es)) e) new poll →
     LegalPoll client r new poll start (e ∷ (others ++ es)) list
 legal_step client r new poll list start e others es is_open sound f own call of st lawful moves = by (question r) refl moves
   where

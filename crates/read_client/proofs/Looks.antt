@@ -1,8 +1,9 @@
 -- What the collection in a state answers to a snapshot or a listen, as it is for all updates.
-use Rattle.std.proofs.Common.{◌≡◌, ℕ, true, false, Option, List, inl, inr, refl}
+use Rattle.std.proofs.Common.{◌≡◌, ℕ, Option, List, inl, inr, refl}
 use Rattle.std.specs.Prelude.{◌&&◌, nat_lt}
 use Rattle.update_core.specs.declared.updates.Update.{Update}
-use Rattle.update_core.specs.Collections.{content, early, late, behind, ended, quiet, step, snapshot_answer, listen_answer, is_closed, is_past}
+use Rattle.update_core.specs.Collections.{content, early, late, behind, ended, quiet, step, snapshot_answer, listen_answer}
+use Rattle.update_core.specs.Collections.{is_closed, is_past}
 use Rattle.update_core.specs.Frontiers.{covers, is_from}
 use Rattle.update_core.specs.Updates.{slice_of, sum_of}
 use Rattle.state_core.specs.States.{ShardState}

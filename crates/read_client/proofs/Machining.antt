@@ -22,12 +22,14 @@ use Rattle.machine_core.specs.Machines.{Asking, CostPoll, Ending, GoesOn, IsRead
 use Rattle.read_machine.specs.declared.readings.Reading.{Reading}
 use Rattle.read_machine.specs.Courses.{counted}
 use Rattle.read_machine.specs.Readings as readings
+use Rattle.read_machine.proofs.Keeping.{none_open}
 use Rattle.read_client.specs.declared.questions.Question.{Question}
 use Rattle.read_client.specs.declared.readers.Reader.{Reader}
 use Rattle.read_client.specs.Asking.{asking}
 use Rattle.read_client.specs.Machining.{Ended, Kept, kept, machine}
-use Rattle.read_client.specs.Reading.{IsOpen, IsSound, Moves, MovesBy, Prepares, Wants, WantsBy, after_poll, call_by, call_of, question, reading_on, shard_of, taken_back}
-use Rattle.read_client.proofs.Calling.{tries_call, try_allowed, try_busy, try_fault, try_more}
+use Rattle.read_client.specs.Reading.{IsOpen, IsSound, Moves, MovesBy, Prepares, Wants, WantsBy, after_poll, call_by, call_of}
+use Rattle.read_client.specs.Reading.{question, reading_on, shard_of, taken_back}
+use Rattle.read_client.proofs.Calling.{tries_call, try_allowed, try_comes}
 use Rattle.read_client.proofs.Costs.{cost_poll, few_calls}
 use Rattle.read_client.proofs.Effects.{counted_more, did_of}
 use Rattle.read_client.proofs.FollowsOn.{moved_on, wants_on}
@@ -36,10 +38,6 @@ use Rattle.read_client.proofs.Preparing.{cost_prepared, next_of, over_prepared, 
 use Rattle.read_client.proofs.Questioning.{read_keeps}
 use Rattle.read_client.proofs.Sound.{kept_trying}
 use Rattle.read_client.proofs.Waiting.{follows_spared, others_on}
-
-none_open : (o : Option Asked) → ¬ IsSome o → o ≡ None
-none_open None closed = refl
-none_open (Some a) closed = absurd (closed refl)
 
 pub not_open : (o : Option Asked) → o ≡ None → ¬ IsSome o
 not_open o e is = let bad : false ≡ true =
@@ -73,13 +71,35 @@ record After (old new : Reader) (poll : Poll ReadAnswer) : Type 0 where
 after : (r new : Reader) (reply : Reply) (poll : Poll ReadAnswer) → Moves r reply new poll → After r new poll
 after r new reply poll m = go (question r) m
   where
-    back : (w : Reading Question) (at : w.course.loader.shard ≡ shard_of r) (p : Poll ReadAnswer) → kept (taken_back (reading_on r w) p) ≡ kept r
+    back : (w : Reading Question) (at : w.course.loader.shard ≡ shard_of r) (p : Poll ReadAnswer) →
+        kept (taken_back (reading_on r w) p) ≡ kept r
     back w at polls.Busy = refl
     back w at polls.More = refl
     back w at polls.Fault = refl
-    back w at polls.Spent = λ i. record { asked = r.asked; member = r.member; listen = r.listen; shard = at i; step = r.trying.step }
-    back w at (polls.Damaged damage) = λ i. record { asked = r.asked; member = r.member; listen = r.listen; shard = at i; step = r.trying.step }
-    back w at (polls.Done answer) = λ i. record { asked = r.asked; member = r.member; listen = r.listen; shard = at i; step = r.trying.step }
+    back w at polls.Spent = λ i. record {
+      asked = r.asked;
+      member = r.member;
+      listen = r.listen;
+      shard = at i;
+      step =
+          r.trying.step;
+    }
+    back w at (polls.Damaged damage) = λ i. record {
+      asked = r.asked;
+      member = r.member;
+      listen = r.listen;
+      shard = at i;
+      step =
+          r.trying.step;
+    }
+    back w at (polls.Done answer) = λ i. record {
+      asked = r.asked;
+      member = r.member;
+      listen = r.listen;
+      shard = at i;
+      step =
+          r.trying.step;
+    }
 
     go : (o : Option Question) → MovesBy o r reply new poll → After r new poll
     go None (t, tried, asked, moves, asked_is, told, now) =
@@ -103,16 +123,19 @@ more_kept r new reply poll m on = let a = after r new reply poll m in ap kept a.
     go (polls.Damaged d) o v = absurd o
     go (polls.Done answer) o v = absurd o
 
-still_open : (r new : Reader) (reply : Reply) (poll : Poll ReadAnswer) → IsOpen r → Moves r reply new poll → GoesOn poll → IsOpen new
+still_open : (r new : Reader) (reply : Reply) (poll : Poll ReadAnswer) → IsOpen r → Moves r reply new poll → GoesOn poll →
+    IsOpen new
 still_open r new reply poll o m on = subst (λ (k : Kept). IsSome k.asked) (sym (more_kept r new reply poll m on)) o
 
 moved_shard : (r new : Reader) (reply : Reply) (poll : Poll ReadAnswer) → Moves r reply new poll → shard_of new ≡ shard_of r
 moved_shard r new reply poll m =
     let a = after r new reply poll m in
-    ap (λ (v : Reader). shard_of v) a.is ∙ ap (λ (t : Trying). t.loader.shard) (kept_trying a.with poll) ∙ ap (λ (k : Kept). k.shard) a.same
+    ap (λ (v : Reader). shard_of v) a.is ∙ ap (λ (t : Trying). t.loader.shard) (kept_trying a.with poll)
+    ∙ ap (λ (k : Kept). k.shard) a.same
 
 -- where it has ended with an answer
-done_ended : (r new : Reader) (reply : Reply) (answer : ReadAnswer) → Moves r reply new (polls.Done answer) → Ended (kept r) answer new
+done_ended : (r new : Reader) (reply : Reply) (answer : ReadAnswer) → Moves r reply new (polls.Done answer) →
+    Ended (kept r) answer new
 done_ended r new reply answer m =
     let a = after r new reply (polls.Done answer) m in
     subst (λ (v : Reader). Ended (kept r) answer v) (sym a.is)
@@ -123,21 +146,21 @@ busy_never : (r new : Reader) (reply : Reply) → IsSound r → ¬ Moves r reply
 busy_never r new reply s m = go (question r) m
   where
     go : (o : Option Question) → ¬ MovesBy o r reply new polls.Busy
-    go None h = try_busy r new reply h
+    go None h = try_comes r new reply polls.Busy h
     go (Some q) (w, moves, at, now) = read_keeps.never_busy r.reading w reply s.reading moves
 
 failed_fault : (r new : Reader) (reply : Reply) → IsSound r → Moves r reply new polls.Fault → reply ≡ replies.Failed
 failed_fault r new reply s m = go (question r) m
   where
     go : (o : Option Question) → MovesBy o r reply new polls.Fault → reply ≡ replies.Failed
-    go None h = try_fault r new reply h
+    go None h = try_comes r new reply polls.Fault h
     go (Some q) (w, moves, at, now) = read_keeps.fault_failed r.reading w reply s.reading moves
 
 answered_more : (r new : Reader) (reply : Reply) → IsSound r → Moves r reply new polls.More → reply ≢ replies.Failed
 answered_more r new reply s m = go (question r) m
   where
     go : (o : Option Question) → MovesBy o r reply new polls.More → reply ≢ replies.Failed
-    go None h = try_more r new reply h
+    go None h = try_comes r new reply polls.More h
     go (Some q) (w, moves, at, now) = read_keeps.more_answered r.reading w reply s.reading moves
 
 -- the client may make its call
@@ -171,7 +194,8 @@ wants_counted r new w = go (question r) w
     go None h = ap (λ (v : Reader). v.trying.calls) h.1
     go (Some q) h = ap (λ (v : Reader). v.trying.calls) h
 
-wants_reads : (r new : Reader) (call : Call) → IsSound r → Wants r new → call_of r ≡ Some call → IsReading call × (call_of new ≡ Some call)
+wants_reads : (r new : Reader) (call : Call) → IsSound r → Wants r new → call_of r ≡ Some call →
+    IsReading call × (call_of new ≡ Some call)
 wants_reads r new call s w call_is = go (question r) refl w
   where
     go : (q : Option Question) → question r ≡ q → WantsBy q r new → IsReading call × (call_of new ≡ Some call)
@@ -188,14 +212,16 @@ wants_reads r new call s w call_is = go (question r) refl w
 
 -- ---- what it costs
 
-as_old : (base client : ℕ) (old ready new : Reader) (poll : Poll ReadAnswer) (start : Stored) (es : List Entry) (list : List Update) →
+as_old : (base client : ℕ) (old ready new : Reader) (poll : Poll ReadAnswer) (start : Stored) (es : List Entry)
+    (list : List Update) →
     Prepares old ready →
     CostPoll machine base client ready new poll start es list → CostPoll machine base client old new poll start es list
 as_old base client old ready new polls.Busy start es list p h = h
 as_old base client old ready new polls.More start es list p h = h
 as_old base client old ready new polls.Fault start es list p h = h
 as_old base client old ready new polls.Spent start es list p h = over_prepared base client old ready new start es list p h
-as_old base client old ready new (polls.Damaged damage) start es list p h = over_prepared base client old ready new start es list p h
+as_old base client old ready new (polls.Damaged damage) start es list p h = over_prepared base client old ready new start es list
+    p h
 as_old base client old ready new (polls.Done answer) start es list p h = over_prepared base client old ready new start es list p h
 
 -- ---- together
@@ -208,7 +234,8 @@ keeps = record {
   prepared_follows = prepared_on;
   prepared_cost = cost_prepared;
   others_follow = λ client r start others es of. others_on start client others es of r;
-  spared_follows = λ client r start e others es closed spares. follows_spared client r start e others es (none_open r.asked closed);
+  spared_follows = λ client r start e others es closed spares. follows_spared client r start e others es
+      (none_open r.asked closed);
   moved_kept = λ r new reply poll sound. more_kept r new reply poll;
   moved_open = λ r new reply poll sound. still_open r new reply poll;
   moved_shard = moved_shard;
@@ -220,21 +247,25 @@ keeps = record {
   effect = did_of;
   allowed = allowed;
   follows = λ client r new call poll list start e others es a c m.
-      moved_on start list client r e others es a.is_open a.ready (a.call_is ∙ ap (λ (q : Call). Some q) (sym c.call_is)) c.own c.of_others
+      moved_on start list client r e others es a.is_open a.ready (a.call_is
+      ∙ ap (λ (q : Call). Some q) (sym c.call_is)) c.own c.of_others
       c.stands c.lawful a.follows new poll m;
   legal = λ client r new call poll list start e others es a c m.
-      legal_step client r new poll list start e others es a.is_open a.ready a.follows c.own (a.call_is ∙ ap (λ (q : Call). Some q) (sym c.call_is))
+      legal_step client r new poll list start e others es a.is_open a.ready a.follows c.own (a.call_is
+      ∙ ap (λ (q : Call). Some q) (sym c.call_is))
       c.of_others c.stands c.lawful m;
   cost = λ base client old ready new call poll list start e others es least p a c m at.
       as_old base client old ready new poll start (e ∷ (others ++ es)) list p
-      (cost_poll base client ready list start e others es least a.is_open a.ready (a.call_is ∙ ap (λ (q : Call). Some q) (sym c.call_is)) a.follows
+      (cost_poll base client ready list start e others es least a.is_open a.ready (a.call_is
+      ∙ ap (λ (q : Call). Some q) (sym c.call_is)) a.follows
       c.own c.of_others c.stands c.lawful new poll (next_of old ready p) at m);
   wanted_kept = wants_kept;
   wanted_counted = wants_counted;
   wanted_open = λ r new w is. subst (λ (k : Kept). IsSome k.asked) (sym (wants_kept r new w)) is;
   wanted_reads = wants_reads;
   wanted_follows = λ client r new call list start e others es a c w.
-      wants_on start list client r e others es a.is_open a.ready (a.call_is ∙ ap (λ (q : Call). Some q) (sym c.call_is)) c.own c.of_others
+      wants_on start list client r e others es a.is_open a.ready (a.call_is
+      ∙ ap (λ (q : Call). Some q) (sym c.call_is)) c.own c.of_others
       c.stands c.lawful a.follows new w;
 }
 

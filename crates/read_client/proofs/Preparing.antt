@@ -13,8 +13,6 @@ use Rattle.history_core.specs.Members.{JoinedAs}
 use Rattle.load_core.specs.declared.tryings.Trying.{Trying}
 use Rattle.load_core.specs.Costing.{CostKept, IsPrepared}
 use Rattle.load_core.specs.Following.{FollowsTrying}
-use Rattle.load_core.specs.Loading.{Loading}
-use Rattle.load_core.specs.Trying as trying
 use Rattle.load_core.proofs.Following.{prepared_follows}
 use Rattle.load_core.proofs.Remaining.{prepared_cost}
 use Rattle.load_core.proofs.TryFacts.{prepared_next, prepares_is}
@@ -57,7 +55,8 @@ readied_trying old ready own p f = go (question old) p
     go None (t, m, e) = subst (λ (r : Reader). FollowsTrying r.trying own) (sym e) (prepared_follows old.trying t own f m)
     go (Some q) e = subst (λ (r : Reader). FollowsTrying r.trying own) (sym e) f
 
-pub prepared_on : (client : ℕ) (old ready : Reader) (start : Stored) (es : List Entry) → Prepares old ready → Follows client old start es →
+pub prepared_on : (client : ℕ) (old ready : Reader) (start : Stored) (es : List Entry) → Prepares old ready →
+    Follows client old start es →
     Follows client ready start es
 prepared_on client old ready start es p f = go (question old) refl p
   where
@@ -71,7 +70,8 @@ prepared_on client old ready start es p f = go (question old) refl p
               (readied_trying old ready (mine_back start es client) p f.trying);
           member = subst (λ (d : ShardId). IfSome old.member (JoinedAs AsReader (mine_back start es client) d))
               (sym (ap (λ (z : Trying). z.loader.shard) is)) f.member;
-          reading = subst (λ (q : Option Question). IfSome q (λ q. readings.Follows asking client z.reading start es)) (sym none) tt;
+          reading = subst (λ (q : Option Question). IfSome q (λ q. readings.Follows asking client z.reading start es))
+              (sym none) tt;
         })
     go (Some q) some e = subst (λ (r : Reader). Follows client r start es) (sym e) f
 
@@ -87,7 +87,8 @@ next_of old ready p none = go (question old) (sym (asks_same old ready p) ∙ no
     go (Some q) e m = absurd (let bad : Some q ≡ None = e in cc)
 
 -- the cost is kept when it is prepared
-pub cost_prepared : (base client : ℕ) (old ready : Reader) (start : Stored) (es : List Entry) (list : List Update) → Prepares old ready →
+pub cost_prepared : (base client : ℕ) (old ready : Reader) (start : Stored) (es : List Entry) (list : List Update) →
+    Prepares old ready →
     CostAt base client old start es list → CostAt base client ready start es list
 cost_prepared base client old ready start es list p at = λ lt.
     let k = readied old ready p in
@@ -106,5 +107,6 @@ pub over_prepared : (base client : ℕ) (old ready new : Reader) (start : Stored
     CostOver base client ready new start es list → CostOver base client old new start es list
 over_prepared base client old ready new start es list p h =
     let k = readied old ready p in
-    subst (λ (z : Reader). CostOver base client z new start es list → CostOver base client old new start es list) (sym k.ready_is) (λ o. o)
+    subst (λ (z : Reader). CostOver base client z new start es list →
+    CostOver base client old new start es list) (sym k.ready_is) (λ o. o)
     h

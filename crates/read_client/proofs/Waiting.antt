@@ -38,15 +38,18 @@ module _ (start : Stored) (client : ℕ) (others es : List Entry) (of : OfOthers
 
 -- ---- a call of another machine of its client
 
-pub follows_spared : (client : ℕ) (r : Reader) (start : Stored) (e : Entry) (others es : List Entry) → r.asked ≡ None → e.client ≡ client →
+pub follows_spared : (client : ℕ) (r : Reader) (start : Stored) (e : Entry) (others es : List Entry) → r.asked ≡ None →
+    e.client ≡ client →
     OfOthers client others → Follows client r start es →
     Follows client r start (e ∷ (others ++ es))
 follows_spared client r start e others es idle own of f = record {
   trying = subst (λ (os : List Answered). FollowsTrying r.trying os) (sym gained)
       (with_newest r.trying r.trying This (mine_back start es client) f.trying refl refl
       (shows_on This (mine_back start es client) (shard_of r) r.trying.loader.cached f.trying.shown));
-  member = subst (λ (os : List Answered). IfSome r.member (JoinedAs AsReader os (shard_of r))) (sym gained) (joined r.member f.member);
-  reading = subst (λ (q : Option Question). IfSome q (λ q. readings.Follows asking client r.reading start (e ∷ (others ++ es)))) (sym unasked) tt;
+  member = subst (λ (os : List Answered). IfSome r.member (JoinedAs AsReader os (shard_of r))) (sym gained)
+      (joined r.member f.member);
+  reading = subst (λ (q : Option Question). IfSome q (λ q. readings.Follows asking client r.reading start (e ∷ (others ++ es))))
+      (sym unasked) tt;
 }
   where
     This : Answered

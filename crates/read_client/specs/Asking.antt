@@ -8,7 +8,8 @@ use Rattle.store_core.specs.declared.shards.ShardId.{ShardId}
 use Rattle.store_core.specs.Stores.{Stored}
 use Rattle.state_core.specs.declared.kinds.Kind.TheVariants.{Reader as AsReader}
 use Rattle.state_core.specs.Lists.{Among}
-use Rattle.update_core.specs.Collections.{SnapshotAnswer, ListenAnswer, content, early, late, behind, ended, quiet, step, snapshot_answer, listen_answer}
+use Rattle.update_core.specs.Collections.{SnapshotAnswer, ListenAnswer, content, early, late, behind, ended, quiet, step}
+use Rattle.update_core.specs.Collections.{snapshot_answer, listen_answer}
 use Rattle.state_core.specs.States.{ShardState, is_reader}
 use Rattle.history_core.specs.declared.asked.Asked.{Asked}
 use Rattle.history_core.specs.declared.asked.Asked.TheVariants as asks
@@ -51,7 +52,8 @@ rows_answer (questions.Step f) s rows = answers.Step f s.upper (slice_of rows f 
 -- the entry is a Get, answered with bytes that are a part in which the row stands
 abbrev pub GetsRow : Stored → Update → Placed → Type 0
 GetsRow start row p =
-    (key : PartKey) × (bytes : List ℕ) × (part : List Update) × IsGot key bytes p.entry.call (reply_at start p) × (rows_in bytes ≡ Some part) ×
+    (key : PartKey) × (bytes : List ℕ) × (part : List Update) × IsGot key bytes p.entry.call (reply_at start p) ×
+    (rows_in bytes ≡ Some part) ×
     Among (λ other. other ≡ row) part
 
 -- since the last answered Scan a Get was answered with bytes that are a part in which the row stands
@@ -61,7 +63,8 @@ RowGot start shard (p ∷ ps) row = (¬ IsAnsweredScan shard p) × (GetsRow star
 
 -- an answer to a question of a member is legal
 abbrev pub QuestionLegal : Question → ShardId → ℕ → Stored → List Placed → List Update → ReadAnswer → Type 0
-QuestionLegal (questions.Content t) shard member start ps list answer = LegalOfReader list start shard member None ps (asks.Snapshot t) answer
+QuestionLegal (questions.Content t) shard member start ps list answer = LegalOfReader list start shard member None ps
+    (asks.Snapshot t) answer
 QuestionLegal (questions.Step f) shard member start ps list answer = LegalStep list start shard member ps f answer
 
 -- and where it has rows, each part was got, and each row of a step stands in one
@@ -79,7 +82,8 @@ asking = record {
   look = asks_of;
   answer = rows_answer;
   expired = λ q version. answers.Expired version;
-  Legal = λ q shard member start ps list answer. QuestionLegal q shard member start ps list answer × QuestionReads q shard start ps answer;
+  Legal = λ q shard member start ps list answer. QuestionLegal q shard member start ps list answer × QuestionReads q shard start
+      ps answer;
 }
 
 -- ---- what a command asks

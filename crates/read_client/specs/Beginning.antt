@@ -34,7 +34,11 @@ BeginsRead old asked listen new =
       asked = Some asked;
       listen = listen;
       trying = record old.trying { loader = unknown (shard_of old); calls = 0 };
-      reading = record { course = courses.begun old.reading.course.getting old.trying.loader (own_member old); asked = question_of (Some asked) listen };
+      reading = record {
+        course = courses.begun old.reading.course.getting old.trying.loader
+            (own_member old);
+        asked = question_of (Some asked) listen;
+      };
     }
 
 -- a reader with a change of its member begun

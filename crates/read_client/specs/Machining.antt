@@ -37,7 +37,8 @@ abbrev pub Opens : Option Asked → Type 0
 Opens (Some (asks.OpenReader shard now lease)) = ⊤
 Opens _ = ⊥
 
--- What one call has done: a Cas carries what was asked, or else makes the shard's first version for an open; a refusal is what a Scan
+-- What one call has done: a Cas carries what was asked, or else makes the shard's first version for an open; a refusal is what a
+-- Scan
 -- shows; and it has committed no more than this.
 pub record Did (k : Kept) (call : Call) (reply : Reply) (poll : Poll ReadAnswer) : Type 0 where
   pub carries : OnlyCarries k.shard k.step call

@@ -1,5 +1,5 @@
 -- What one poll of a reader does, answers and costs. Entries go newest first.
-use Rattle.std.specs.Prelude.{⊤, ◌≡◌, ◌⊎◌, ℕ, ◌+◌, ◌<◌, ◌≤◌, Option, Some, None, List, [], ◌∷◌, length}
+use Rattle.std.specs.Prelude.{⊤, ◌≡◌, ◌⊎◌, ℕ, ◌+◌, ◌<◌, Option, Some, None, List}
 use Rattle.std.specs.List.{AllByRecursion}
 use Rattle.update_core.specs.declared.updates.Update.{Update}
 use Rattle.store_core.specs.declared.shards.ShardId.{ShardId}
@@ -54,13 +54,15 @@ IsRefusal _ = ⊥
 
 -- ---- what it answers
 
--- Where rows are answered, each part that the question is about was answered with bytes since the command's last Scan, and each row
+-- Where rows are answered, each part that the question is about was answered with bytes since the command's last Scan, and each
+-- row
 -- of a step stands in a part that a Get of the command was answered with since then.
 abbrev pub ReadsParts : ℕ → ShardId → ℕ → ReadAnswer → Stored → List Entry → Asked → Type 0
 ReadsParts client shard calls (answers.Rows rows) start es (asks.Snapshot t) =
     PartsGot start shard (snapshot_keys t) (places client calls es)
 ReadsParts client shard calls (answers.Step from to rows) start es asked =
-    PartsGot start shard (step_keys from) (places client calls es) × AllByRecursion (RowGot start shard (places client calls es)) rows
+    PartsGot start shard (step_keys from) (places client calls es) × AllByRecursion (RowGot start shard
+    (places client calls es)) rows
 ReadsParts client shard calls _ start es asked = ⊤
 
 -- ---- what it costs
@@ -79,4 +81,5 @@ OverBy None base client stage r start es = CostEnded base client r.trying start 
 OverBy (Some q) base client stage r start es = OverStage client r.reading.course stage es
 
 abbrev pub CostOver : ℕ → ℕ → Reader → Reader → Stored → List Entry → List Update → Type 0
-CostOver base client old new start es list = new.trying.calls < most → OverBy (question old) base client old.reading.course.stage new start es
+CostOver base client old new start es list = new.trying.calls < most →
+    OverBy (question old) base client old.reading.course.stage new start es

@@ -1,5 +1,5 @@
 -- A reader: what it does next, and what a reply makes of it.
-use Rattle.std.specs.Prelude.{⊤, ◌≡◌, ℕ, Option, Some, None, IsSome, IfSome, IsSomeAnd, unwrap_or, if◌then◌else◌, Result, Ok, Err, List, [], ◌∷◌}
+use Rattle.std.specs.Prelude.{◌≡◌, ℕ, Option, Some, None, IsSome, IfSome, IsSomeAnd, unwrap_or, []}
 use Rattle.update_core.specs.Frontiers.{after}
 use Rattle.store_core.specs.declared.shards.ShardId.{ShardId}
 use Rattle.store_core.specs.declared.calls.Call.{Call}
@@ -59,7 +59,8 @@ question r = question_of r.asked r.listen
 
 -- what is tried on a shard for a member, or asked where a listen stands at a frontier, is what was asked
 abbrev pub AsksAs : ShardId → Option ℕ → Transition → Option (Option ℕ) → Asked → Type 0
-AsksAs at_shard member step listen (asks.OpenReader shard now lease) = (shard ≡ at_shard) × (member ≡ None) × (step ≡ Join AsReader now lease)
+AsksAs at_shard member step listen (asks.OpenReader shard now lease) = (shard ≡ at_shard) × (member ≡ None) ×
+    (step ≡ Join AsReader now lease)
 AsksAs at_shard member step listen (asks.Snapshot t) = IsSome member
 AsksAs at_shard member step listen (asks.Listen as_of) = IsSome member × (listen ≡ Some (after as_of))
 AsksAs at_shard member step listen asks.Next = IsSome member × IsSome listen
@@ -72,7 +73,8 @@ AsksAs at_shard member step listen _ = ⊥
 abbrev pub IsAsked : Reader → Asked → Type 0
 IsAsked r asked = AsksAs (shard_of r) r.member r.trying.step r.listen asked
 
--- The question that is open is asked for the own member, of the same shard, after as many calls, and no version is ready meanwhile.
+-- The question that is open is asked for the own member, of the same shard, after as many calls, and no version is ready
+-- meanwhile.
 pub record IsLent (r : Reader) : Type 0 where
   pub member : r.member ≡ Some r.reading.course.member
   pub shard : r.reading.course.loader.shard ≡ shard_of r
@@ -143,7 +145,12 @@ after_poll r polls.More = r
 after_poll r polls.Fault = r
 after_poll r (polls.Damaged damage) = record r { asked = None }
 after_poll r polls.Spent = record r { asked = None }
-after_poll r (polls.Done answer) = record r { asked = None; member = member_after r.member answer; listen = listen_after r.asked r.listen answer }
+after_poll r (polls.Done answer) = record r {
+  asked = None;
+  member = member_after r.member answer;
+  listen = listen_after r.asked
+      r.listen answer;
+}
 
 -- ---- what a reply to a call of a transition comes to
 

@@ -14,5 +14,3 @@ pub use readers::Reader;
 
 #[cfg(test)]
 mod tests;
-#[cfg(test)]
-mod untold_stores;

@@ -36,7 +36,12 @@ impl read_machine::Question for Question {
         }
     }
 
-    fn answer(&self, alloc: Global, state: &State, rows: &UpdateList) -> Result<ReadAnswer, AllocError> {
+    fn answer(
+        &self,
+        alloc: Global,
+        state: &State,
+        rows: &UpdateList,
+    ) -> Result<ReadAnswer, AllocError> {
         match self {
             Question::Content { t } => {
                 let rows = sum_at(alloc, rows, *t)?;

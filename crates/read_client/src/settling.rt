@@ -3,7 +3,9 @@ ghost use Rattle.std.specs.Prelude.{◌≡◌, IfOk, IfSome, IsSome, OnErr, unwr
 ghost use Rattle.store_core.specs.Histories.{IsReplyTo};
 ghost use Rattle.load_core.specs.Trying as trying;
 ghost use Rattle.read_client.specs.Asking.{asking};
-ghost use Rattle.read_client.specs.Reading.{IsOpen, IsSound, Moves, MovesAfterRead, MovesAfterTry, Wants, after_poll, call_of, change_poll, gone_answer, in_answer, listen_after, member_after, newest_number, own_member, reading_on, shard_of, strange, taken_back, verdict};
+ghost use Rattle.read_client.specs.Reading.{IsOpen, IsSound, Moves, MovesAfterRead, MovesAfterTry, Wants, after_poll, call_of};
+ghost use Rattle.read_client.specs.Reading.{change_poll, gone_answer, in_answer, listen_after, member_after, newest_number};
+ghost use Rattle.read_client.specs.Reading.{own_member, reading_on, shard_of, strange, taken_back, verdict};
 ghost use Rattle.read_machine.specs.Courses.{counted, read_call};
 ghost use Rattle.read_machine.specs.Readings as readings;
 
@@ -46,7 +48,8 @@ impl Reader {
         ensures moves { IfOk result (λ poll. MovesAfterTry self.old reply (after_poll self.new poll) poll) }
         ensures sound { trying.IsSound self.new.trying }
         ensures reading { self.new.reading ≡ self.old.reading }
-        ensures memory { OnErr result (trying.IsScanning self.old.trying.next × (self.new ≡ record self.old { trying = trying.called self.old.trying })) }
+        ensures memory { OnErr result (trying.IsScanning self.old.trying.next ×
+            (self.new ≡ record self.old { trying = trying.called self.old.trying })) }
     {
         match self.trying.react(alloc, reply) {
             Ok(tried) => Ok(self.verdict(tried)),
@@ -64,7 +67,8 @@ impl Reader {
         ensures moves { IfOk result (λ poll. MovesAfterRead self.old reply (after_poll self.new poll) poll) }
         ensures next { self.new.trying.next ≡ self.old.trying.next }
         ensures reading { readings.IsSound asking self.new.reading }
-        ensures memory { OnErr result (self.new ≡ reading_on self.old (record self.old.reading { course = counted self.old.reading.course })) }
+        ensures memory { OnErr result (self.new ≡
+            reading_on self.old (record self.old.reading { course = counted self.old.reading.course })) }
     {
         self.count();
         let poll = self.reading.react(alloc, reply)?;

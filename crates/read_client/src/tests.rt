@@ -5,7 +5,6 @@ ghost use Rattle.load_core.specs.Trying.{IsSound as IsTriable};
 ghost use Rattle.read_client.specs.Reading.{IsSound};
 
 use super::*;
-use crate::untold_stores::UntoldStore;
 use load_core::{Attempt, Loader, Tried, Trying, first_version};
 use spine_core::KeyList;
 use state_core::{Kind, Transition};
@@ -15,6 +14,7 @@ use store_core::{
     BlobList, Bytes, BytesList, Call, DirectPort, FaultAt, FaultList, MemStore, PartKey, Port,
     ShardId, ShardList, Turn,
 };
+use test_stores::UntoldStore;
 use update_core::Frontier;
 
 const SHARD: ShardId = ShardId(1);

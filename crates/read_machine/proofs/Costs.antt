@@ -1,6 +1,6 @@
 -- A reply to a reading keeps its cost.
-use Rattle.std.proofs.Common.{◌≡◌, ℕ, suc, ◌+◌, ◌<◌, ◌≤◌, Some, List, [], ◌∷◌, ◌++◌, length, inl, inr, refl, sym, ap, subst, ◌∙◌, arith}
-use Rattle.std.specs.Prelude.{⊤}
+use Rattle.std.proofs.Common.{◌≡◌, ℕ, suc, ◌+◌, ◌<◌, ◌≤◌, Some, List, [], ◌∷◌, ◌++◌, length, inl, inr, refl, sym, ap, subst, ◌∙◌}
+use Rattle.std.proofs.Common.{arith}
 use Rattle.store_core.specs.declared.shards.ShardId.{ShardId}
 use Rattle.store_core.specs.declared.part_keys.PartKey.{PartKey}
 use Rattle.store_core.specs.declared.calls.Call.{Call}
@@ -32,20 +32,21 @@ use Rattle.read_machine.specs.declared.sights.Sight.{Sight}
 use Rattle.read_machine.specs.declared.sights.Sight.TheVariants as sights
 use Rattle.read_machine.specs.declared.stages.Stage.{Stage}
 use Rattle.read_machine.specs.declared.stages.Stage.TheVariants as stages
-use Rattle.read_machine.specs.Courses.{GoesBy, MovesByFetched, counted, holding, missing_poll, read_call, rows_poll, sight_of, sight_poll, staged}
+use Rattle.read_machine.specs.Courses.{GoesBy, MovesByFetched, counted, holding, missing_poll, read_call, rows_poll, sight_of}
+use Rattle.read_machine.specs.Courses.{sight_poll, staged}
 use Rattle.read_machine.specs.Following.{OverStage, ReadCost}
 use Rattle.read_machine.specs.Questions.{Questions}
-use Rattle.read_machine.proofs.HowRead.{HowGot, HowRead, IsScanStage, checked, damaged, fails, gains, got, heavy, misses, scanned, spoilt, unscanned}
+use Rattle.read_machine.proofs.HowRead.{HowGot, HowRead, checked, damaged, fails, gains, got, heavy, misses, scanned, spoilt}
+use Rattle.read_machine.proofs.HowRead.{unscanned}
+use Rattle.read_machine.proofs.Places.{next_count}
 use Rattle.read_machine.proofs.Parts.{Asks, scans, gets, asks_call}
 use Rattle.read_machine.proofs.Sound.{Ends, HowSight, answers, empty, gone, how_sight, missing_ends, parts, rows_ends, strange}
 
-one_call : (n m : ℕ) → m ≡ more n → m < most → m ≡ suc n
-one_call n m h lt = omega arith
-
-less : (a : ℕ) → more a < most → a < most
+pub less : (a : ℕ) → more a < most → a < most
 less a lt = omega arith
 
-failed_scan : (store : Stored) (shard : ShardId) (from : ℕ) (o : Outcome) → reply_by store (calls.Scan shard from) o ≡ replies.Failed → faults_of o ≡ 1
+failed_scan : (store : Stored) (shard : ShardId) (from : ℕ) (o : Outcome) →
+    reply_by store (calls.Scan shard from) o ≡ replies.Failed → faults_of o ≡ 1
 failed_scan store shard from Took h = absurd (let bad : replies.Versions _ ≡ replies.Failed = h in cc)
 failed_scan store shard from FailedTook h = refl
 failed_scan store shard from FailedLost h = refl
@@ -62,7 +63,8 @@ CostAfter client c es new polls.More = new.calls < most → ReadCost client new 
 CostAfter client c es new polls.Fault = new.calls < most → ReadCost client new new.stage es
 CostAfter client c es new _ = new.calls < most → OverStage client new c.stage es
 
-module _ {Q A : Type 0} (W : Questions Q A) (client : ℕ) (c : Course) (q : Q) (start : Stored) (e : Entry) (others es : List Entry)
+module _ {Q A : Type 0} (W : Questions Q A) (client : ℕ) (c : Course) (q : Q) (start : Stored) (e : Entry)
+    (others es : List Entry)
     (call_is : read_call c c.stage ≡ Some e.call) (own : e.client ≡ client) (of : OfOthers client others)
     (left : c.stage ≡ stages.Get → getting.IsOpen c.getting) (at : c.calls < most → ReadCost client c c.stage es) where
   abbrev now : List Entry
@@ -85,7 +87,8 @@ module _ {Q A : Type 0} (W : Questions Q A) (client : ℕ) (c : Course) (q : Q) 
       made call is = subst (λ (x : Call). reply_by (replay_back start (others ++ es)) x e.outcome ≡ replies.Failed) is failed
 
       by : Asks c e.call → faults_of e.outcome ≡ 1
-      by (scans st is) = failed_scan (replay_back start (others ++ es)) c.loader.shard (scan_from c.loader.cached) e.outcome (made _ is)
+      by (scans st is) = failed_scan (replay_back start (others ++ es)) c.loader.shard (scan_from c.loader.cached) e.outcome
+          (made _ is)
       by (gets key st key_is is) = failed_get (replay_back start (others ++ es)) key e.outcome (made _ is)
 
   -- what is known of one call more
@@ -96,7 +99,7 @@ module _ {Q A : Type 0} (W : Questions Q A) (client : ℕ) (c : Course) (q : Q) 
 
   counts : (new : Course) → new.calls ≡ more c.calls → new.calls < most → Counts new
   counts new h lt =
-      let one = one_call c.calls new.calls h lt in
+      let one = next_count c.calls new.calls h lt in
       record {
         one = one;
         failures_are = subst (λ (m : ℕ). failed_calls client m now ≡ faults_of e.outcome + failures) (sym one)
@@ -105,7 +108,8 @@ module _ {Q A : Type 0} (W : Questions Q A) (client : ℕ) (c : Course) (q : Q) 
       }
 
   -- it has ended
-  over : (new : Course) → new.calls ≡ more c.calls → new.getting.keys ≡ c.getting.keys → new.calls < most → OverStage client new c.stage now
+  over : (new : Course) → new.calls ≡ more c.calls → new.getting.keys ≡ c.getting.keys → new.calls < most →
+      OverStage client new c.stage now
   over new h keys lt = go c.stage refl k.was
     where
       k : Counts new
@@ -120,7 +124,8 @@ module _ {Q A : Type 0} (W : Questions Q A) (client : ℕ) (c : Course) (q : Q) 
       go (stages.Check key) is was = omega (arith, was, k.one, k.failures_are, many)
 
   -- the same call is to be made again
-  again : (new : Course) → new.calls ≡ more c.calls → new.stage ≡ c.stage → new.getting ≡ c.getting → faults_of e.outcome ≡ 1 → new.calls < most →
+  again : (new : Course) → new.calls ≡ more c.calls → new.stage ≡ c.stage → new.getting ≡ c.getting → faults_of e.outcome ≡ 1 →
+      new.calls < most →
       ReadCost client new new.stage now
   again new h stage parts_are failed lt = subst (λ (st : Stage). ReadCost client new st now) (sym stage) (go c.stage k.was)
     where
@@ -158,7 +163,8 @@ module _ {Q A : Type 0} (W : Questions Q A) (client : ℕ) (c : Course) (q : Q) 
         GoesBy W (holding (counted c) k) q sight new poll → CostOf new poll
     look_cost k sight how stage (p, n) = go how
       where
-        says : (x : Sight A) → sight ≡ x → Ends (sight_poll W (holding (counted c) k) q x) → (staged (holding (counted c) k) x).calls ≡ more c.calls →
+        says : (x : Sight A) → sight ≡ x → Ends (sight_poll W (holding (counted c) k) q x) →
+            (staged (holding (counted c) k) x).calls ≡ more c.calls →
             (staged (holding (counted c) k) x).getting.keys ≡ c.getting.keys → CostOf new poll
         says x is h more_is keys =
             let now_is : new ≡ staged (holding (counted c) k) x = n ∙ ap (staged (holding (counted c) k)) is in
@@ -187,7 +193,8 @@ module _ {Q A : Type 0} (W : Questions Q A) (client : ℕ) (c : Course) (q : Q) 
         at_get : (z : Course) → Counts z → c.calls + 0 ≤ 1 + c.getting.place + failures
         at_get z k = subst (λ (st : Stage). ReadCost client c st es) stage k.was
 
-        end : (p : Poll A) → Ends p → poll ≡ p → new ≡ record (counted c) { getting = g } → g.keys ≡ c.getting.keys → CostOf new poll
+        end : (p : Poll A) → Ends p → poll ≡ p → new ≡ record (counted c) { getting = g } → g.keys ≡ c.getting.keys →
+            CostOf new poll
         end p h is n keys = ends p is h (ap (λ (z : Course). z.calls) n) (ap (λ (z : Course). z.getting.keys) n ∙ keys)
 
         go : HowGot c.getting answer g fetched → CostOf new poll
@@ -196,7 +203,8 @@ module _ {Q A : Type 0} (W : Questions Q A) (client : ℕ) (c : Course) (q : Q) 
             let z : Course = record (counted c) { getting = g } in
             goes z m.1 m.0 (λ lt. let k = counts z refl lt in
             let place : g.place ≡ c.getting.place + 1 = ap (λ (x : Getting). x.place) is in
-            subst (λ (st : Stage). ReadCost client z st now) (sym stage) (omega (arith, at_get z k, k.one, k.failures_are, place)))
+            subst (λ (st : Stage). ReadCost client z st now) (sym stage) (omega
+            (arith, at_get z k, k.one, k.failures_are, place)))
         go (gains b part is_r reads is (inr (f, done))) = let m = told fetches.Done f in
             end (rows_poll W (counted c) q g.rows) (rows_ends W (counted c) q g.rows) m.0 m.1 (ap (λ (x : Getting). x.keys) is)
         go (fails is_r is f) =

@@ -1,13 +1,12 @@
 -- A reading follows from its client's own entries also after one more. Entries go newest first.
-use Rattle.std.proofs.Common.{◌≡◌, ℕ, ◌+◌, ◌<◌, min, Bool, true, false, Option, Some, None, Ok, List, [], ◌∷◌, ◌++◌, take, inl, inr, refl, sym, ap, subst, ◌∙◌, arith}
-use Rattle.std.specs.Prelude.{nat_lt, ◌&&◌, IfSome, IsSomeAnd}
+use Rattle.std.proofs.Common.{◌≡◌, ℕ, ◌+◌, min, Option, Some, None, Ok, List, [], ◌∷◌, ◌++◌, take, inl, inr, refl, sym, ap, subst}
+use Rattle.std.proofs.Common.{◌∙◌, arith}
+use Rattle.std.specs.Prelude.{IfSome, IsSomeAnd}
 use Rattle.std.specs.Option.{option_map}
 use Rattle.update_core.specs.declared.updates.Update.{Update}
-use Rattle.part_codec.proofs.Fields.{IsBytes}
 use Rattle.store_core.specs.declared.shards.ShardId.{ShardId}
 use Rattle.store_core.specs.declared.part_keys.PartKey.{PartKey}
 use Rattle.store_core.specs.declared.versions.Version.{Version}
-use Rattle.store_core.specs.declared.calls.Call.{Call}
 use Rattle.store_core.specs.declared.calls.Call.TheVariants as calls
 use Rattle.store_core.specs.declared.replies.Reply.{Reply}
 use Rattle.store_core.specs.declared.replies.Reply.TheVariants as replies
@@ -18,7 +17,7 @@ use Rattle.store_core.specs.Ports.{Answered, OfOthers, answered}
 use Rattle.store_core.specs.Newest.{mine_back, replay_back}
 use Rattle.state_core.specs.States.{ShardState}
 use Rattle.state_core.specs.VersionReading.{most}
-use Rattle.history_core.specs.Discipline.{GotAs, Hold, LawfulBack, ShowsState}
+use Rattle.history_core.specs.Discipline.{LawfulBack, ShowsState}
 use Rattle.history_core.specs.Laws.{LastIs}
 use Rattle.history_core.specs.Members.{JoinedAs}
 use Rattle.history_core.specs.Placing.{IsAnsweredScan, placed}
@@ -35,7 +34,6 @@ use Rattle.load_core.specs.Following.{FollowsLoading}
 use Rattle.load_core.specs.Getting as getting
 use Rattle.load_core.specs.Loading.{Loading, newest_after, scan_from, scan_of}
 use Rattle.load_core.specs.PartsFollowing.{BringsBytes}
-use Rattle.load_core.specs.Trying.{more}
 use Rattle.load_core.proofs.Following.{newest_shows, shows_on}
 use Rattle.load_core.proofs.GettingFollows.{got_later, still_got}
 use Rattle.load_core.proofs.Scanned.{newest_last, scan_answer}
@@ -44,14 +42,17 @@ use Rattle.read_machine.specs.declared.sights.Sight.{Sight}
 use Rattle.read_machine.specs.declared.sights.Sight.TheVariants as sights
 use Rattle.read_machine.specs.declared.stages.Stage.{Stage}
 use Rattle.read_machine.specs.declared.stages.Stage.TheVariants as stages
-use Rattle.read_machine.specs.Courses.{GoesBy, MovesByFetched, counted, expired, holding, missing_poll, read_call, rows_poll, sight_of, sight_poll, staged, strange}
+use Rattle.read_machine.specs.Courses.{GoesBy, MovesByFetched, counted, holding, missing_poll, read_call, rows_poll, sight_of}
+use Rattle.read_machine.specs.Courses.{sight_poll, staged}
 use Rattle.read_machine.specs.Following.{FollowsAsked, FollowsStage, IsRead, SinceGot, SinceMissing}
 use Rattle.read_machine.specs.Questions.{IsQuestion, Questions}
 use Rattle.read_machine.specs.Readings.{IsGetting, SoundBy}
-use Rattle.read_machine.proofs.HowRead.{IsScanStage, HowGot, gains, fails, misses, spoilt, heavy, HowRead, unscanned, damaged, scanned, checked, got}
+use Rattle.read_machine.proofs.HowRead.{IsScanStage, HowGot, gains, fails, misses, spoilt, heavy, HowRead, unscanned, damaged}
+use Rattle.read_machine.proofs.HowRead.{scanned, checked, got}
 use Rattle.read_machine.proofs.Parts.{Asks, scans, gets, asks_call, names_key}
 use Rattle.read_machine.proofs.Since.{got_more, missing_more, missing_now}
-use Rattle.read_machine.proofs.Sound.{Ends, HowSight, gone, strange as shown_strange, answers, empty, parts, at_stage, how_sight, missing_ends, rows_ends}
+use Rattle.read_machine.proofs.Sound.{Ends, HowSight, gone, strange as shown_strange, answers, empty, parts, at_stage, how_sight}
+use Rattle.read_machine.proofs.Sound.{missing_ends, rows_ends}
 use Rattle.read_machine.proofs.Stretch.{behind_scan, get_shows, part_there}
 use Rattle.read_machine.proofs.Undamaged.{part_reads}
 
@@ -64,7 +65,8 @@ staged_loader c sights.Strange = refl
 staged_loader c (sights.Answer a) = refl
 staged_loader c (sights.Parts ks) = refl
 
-module _ {Q A : Type 0} (W : Questions Q A) (L : IsQuestion W) (start : Stored) (list : List Update) (client : ℕ) (c : Course) (q : Q) (e : Entry)
+module _ {Q A : Type 0} (W : Questions Q A) (L : IsQuestion W) (start : Stored) (list : List Update) (client : ℕ) (c : Course)
+    (q : Q) (e : Entry)
     (others es : List Entry) (s : SoundBy W c q) (call_is : read_call c c.stage ≡ Some e.call) (own : e.client ≡ client)
     (of : OfOthers client others) (st : StandsFor start c.loader.shard list) (lawful : LawfulBack start (e ∷ (others ++ es)))
     (shown : FollowsLoading c.loader (mine_back start es client)) (f : FollowsAsked W.kind client c start es) where
@@ -115,7 +117,8 @@ module _ {Q A : Type 0} (W : Questions Q A) (L : IsQuestion W) (start : Stored) 
 
   -- a Get is no Scan
   no_scan : (key : PartKey) → e.call ≡ calls.Get key → ¬ IsAnsweredScan c.loader.shard (placed e [])
-  no_scan key is h = let bad : calls.Get key ≡ calls.Scan c.loader.shard h.0.0 = sym is ∙ h.0.1 in get_no_scan key c.loader.shard h.0.0 bad
+  no_scan key is h = let bad : calls.Get key ≡ calls.Scan c.loader.shard h.0.0 = sym is
+      ∙ h.0.1 in get_no_scan key c.loader.shard h.0.0 bad
 
   pub staged_is : (stage : Stage) → c.stage ≡ stage → FollowsStage W.kind client c start es stage
   staged_is stage is = subst (FollowsStage W.kind client c start es) is f.reading
@@ -124,21 +127,25 @@ module _ {Q A : Type 0} (W : Questions Q A) (L : IsQuestion W) (start : Stored) 
 
   scan_shows : (vs : List Version) (k : ShardState) → IsScanStage c.stage → here ≡ replies.Versions vs →
       newest_after c.loader.shard c.loader.cached vs ≡ Ok (Some k) → ShowsState (answered e here ∷ was) c.loader.shard k.number k
-  scan_shows vs k stage r newest = newest_shows c.loader (answered e here) was (scan_from c.loader.cached) vs k (scan_is stage) r shown newest
+  scan_shows vs k stage r newest = newest_shows c.loader (answered e here) was (scan_from c.loader.cached) vs k
+      (scan_is stage) r shown newest
 
   -- after a Scan it is the last version's
   pub scan_last : (vs : List Version) (k : ShardState) → IsScanStage c.stage → here ≡ replies.Versions vs →
-      newest_after c.loader.shard c.loader.cached vs ≡ Ok (Some k) → LastIs (replay_back start (others ++ es)) c.loader.shard k.number k
+      newest_after c.loader.shard c.loader.cached vs ≡ Ok (Some k) →
+      LastIs (replay_back start (others ++ es)) c.loader.shard k.number k
   scan_last vs k stage r newest = newest_last start list (others ++ es) older c.loader st e vs (scan_is stage) (sym r) client
       (subst (FollowsLoading c.loader) (sym (mine_others start client others es of)) shown) k newest
 
-  pub scan_done : (vs : List Version) → IsScanStage c.stage → here ≡ replies.Versions vs → IsAnsweredScan c.loader.shard (placed e (others ++ es))
+  pub scan_done : (vs : List Version) → IsScanStage c.stage → here ≡ replies.Versions vs →
+      IsAnsweredScan c.loader.shard (placed e (others ++ es))
   scan_done vs stage r = (
     (scan_from c.loader.cached, scan_is stage),
     (scan_answer (replay_back start (others ++ es)) e c.loader.shard (scan_from c.loader.cached) vs (scan_is stage) (sym r)).0,
   )
 
-  loads : (l : Loading) → IfSome l.cached (λ k. ShowsState (answered e here ∷ was) l.shard k.number k) → FollowsLoading l (mine_back start now client)
+  loads : (l : Loading) → IfSome l.cached (λ k. ShowsState (answered e here ∷ was) l.shard k.number k) →
+      FollowsLoading l (mine_back start now client)
   loads l h = of_mine (λ os. FollowsLoading l os) h
 
   pub shown_still : FollowsLoading c.loader (mine_back start now client)
@@ -155,7 +162,8 @@ module _ {Q A : Type 0} (W : Questions Q A) (L : IsQuestion W) (start : Stored) 
   still_staged stages.Scan is = tt
   still_staged stages.Get is = on c.loader.cached (staged_is stages.Get is)
     where
-      on : (o : Option ShardState) → IsSomeAnd o (SinceGot W.kind client c start es) → IsSomeAnd o (SinceGot W.kind client (counted c) start now)
+      on : (o : Option ShardState) → IsSomeAnd o (SinceGot W.kind client c start es) →
+          IsSomeAnd o (SinceGot W.kind client (counted c) start now)
       on None h = absurd h
       on (Some k) h =
           let (key, at, call) = get_is is in
@@ -173,43 +181,32 @@ module _ {Q A : Type 0} (W : Questions Q A) (L : IsQuestion W) (start : Stored) 
   counted_on = record { member = joined_stays; reading = still_staged c.stage refl }
 
   -- bytes that are got are those of a part
-  brings : (o : Option ShardState) (key : PartKey) → IsSomeAnd o (SinceGot W.kind client c start es) → IsSomeAnd o (IsGetting W c q) →
-      getting.key_of c.getting ≡ Some key → e.call ≡ calls.Get key → BringsBytes here
-  brings None key h g at call = absurd h
-  brings (Some k) key h g at call = by here refl
-    where
-      bytes : (b : List ℕ) → here ≡ replies.Bytes (Some b) → IsBytes b
-      bytes b r =
-          let shows = get_shows (replay_back start (others ++ es)) e key (Some b) call r in
-          let split : others ++ es ≡ (others ++ (h.since.later ++ (h.since.scan ∷ []))) ++ h.since.before =
-          ap (λ (x : List Entry). others ++ x) h.since.split ∙ behind_scan others h.since.later h.since.scan h.since.before in
-          let found = part_there start c.loader.shard list st k k.number (others ++ (h.since.later ++ (h.since.scan ∷ []))) h.since.before
-          (subst (LawfulBack start) split older) h.since.last key b (names_key W L c q k key g at)
-          (subst (λ (x : List Entry). (replay_back start x).blobs key ≡ Some b) split shows) in
-          (part_reads b found.1.0 found.1.1).bytes
-
-      by : (r : Reply) → here ≡ r → BringsBytes here
-      by (replies.Bytes (Some b)) r = subst BringsBytes (sym r) (bytes b r)
-      by (replies.Bytes None) r = subst BringsBytes (sym r) tt
-      by replies.Failed r = subst BringsBytes (sym r) tt
-      by (replies.Version v) r = subst BringsBytes (sym r) tt
-      by (replies.Versions vs) r = subst BringsBytes (sym r) tt
-      by (replies.Committed v) r = subst BringsBytes (sym r) tt
-      by replies.Mismatch r = subst BringsBytes (sym r) tt
-      by replies.Spent r = subst BringsBytes (sym r) tt
-      by replies.Truncated r = subst BringsBytes (sym r) tt
-      by replies.Stored r = subst BringsBytes (sym r) tt
-      by replies.Deleted r = subst BringsBytes (sym r) tt
+  brings : (o : Option ShardState) (key : PartKey) (b : List ℕ) → IsSomeAnd o (SinceGot W.kind client c start es) →
+      IsSomeAnd o (IsGetting W c q) →
+      getting.key_of c.getting ≡ Some key → e.call ≡ calls.Get key → here ≡ replies.Bytes (Some b) → BringsBytes here
+  brings None key b h g at call r = absurd h
+  brings (Some k) key b h g at call r =
+      let shows = get_shows (replay_back start (others ++ es)) e key (Some b) call r in
+      let split : others ++ es ≡ (others ++ (h.since.later ++ (h.since.scan ∷ []))) ++ h.since.before =
+      ap (λ (x : List Entry). others ++ x) h.since.split ∙ behind_scan others h.since.later h.since.scan h.since.before in
+      let found = part_there start c.loader.shard list st k k.number (others ++ (h.since.later ++
+      (h.since.scan ∷ []))) h.since.before
+      (subst (LawfulBack start) split older) h.since.last key b (names_key W L c q k key g at)
+      (subst (λ (x : List Entry). (replay_back start x).blobs key ≡ Some b) split shows) in
+      subst BringsBytes (sym r) (part_reads b found.1.0 found.1.1).bytes
 
   -- with one more part, or none
-  parts_on : (o : Option ShardState) (key : PartKey) (g : Getting) (fetched : Fetched) → IsSomeAnd o (SinceGot W.kind client c start es) →
-      IsSomeAnd o (IsGetting W c q) → getting.key_of c.getting ≡ Some key → e.call ≡ calls.Get key → getting.Moves c.getting here g fetched →
+  parts_on : (o : Option ShardState) (key : PartKey) (g : Getting) (fetched : Fetched) →
+      IsSomeAnd o (SinceGot W.kind client c start es) →
+      getting.key_of c.getting ≡ Some key → e.call ≡ calls.Get key → BringsBytes here → getting.Moves c.getting here g fetched →
       IsSomeAnd o (SinceGot W.kind client (record (counted c) { getting = g }) start now)
-  parts_on None key g fetched h k at call moves = absurd h
-  parts_on (Some k) key g fetched h reads at call moves =
-      got_more W.kind start client e others es own of c (record (counted c) { getting = g }) k refl refl refl read (no_scan key call) h
-      (still_got (mine_back (replay_back start (h.since.scan ∷ h.since.before)) h.since.later client) c.getting g (answered e here) fetched h.got
-      (ap (option_map (λ (x : PartKey). calls.Get x)) at ∙ ap Some (sym call)) (brings (Some k) key h reads at call) moves)
+  parts_on None key g fetched h at call bytes moves = absurd h
+  parts_on (Some k) key g fetched h at call bytes moves =
+      got_more W.kind start client e others es own of c (record (counted c) { getting = g }) k refl refl refl read
+      (no_scan key call) h
+      (still_got (mine_back (replay_back start (h.since.scan ∷ h.since.before)) h.since.later client) c.getting g
+      (answered e here) fetched h.got
+      (ap (option_map (λ (x : PartKey). calls.Get x)) at ∙ ap Some (sym call)) bytes moves)
 
   missing_on : (o : Option ShardState) (key : PartKey) (g : Getting) → IsSomeAnd o (SinceGot W.kind client c start es) →
       (replay_back start (others ++ es)).blobs key ≡ None →
@@ -221,26 +218,31 @@ module _ {Q A : Type 0} (W : Questions Q A) (L : IsQuestion W) (start : Stored) 
   -- ---- after a reply
 
   abbrev pub Goes : Course → Poll A → Type 0
-  Goes new poll = FollowsLoading new.loader (mine_back start now client) × (¬ Ends poll → FollowsAsked W.kind client new start now)
+  Goes new poll = FollowsLoading new.loader (mine_back start now client) × (¬ Ends poll →
+      FollowsAsked W.kind client new start now)
 
   module _ (new : Course) (poll : Poll A) where
     -- it has ended
-    over : (l : Loading) (p : Poll A) → new.loader ≡ l → FollowsLoading l (mine_back start now client) → Ends p → poll ≡ p → Goes new poll
+    over : (l : Loading) (p : Poll A) → new.loader ≡ l → FollowsLoading l (mine_back start now client) → Ends p → poll ≡ p →
+        Goes new poll
     over l p is h ends e = (
       subst (λ (x : Loading). FollowsLoading x (mine_back start now client)) (sym is) h,
       λ goes. absurd (goes (subst Ends (sym e) ends)),
     )
 
     -- it goes on
-    on : (z : Course) → new ≡ z → FollowsLoading z.loader (mine_back start now client) → FollowsAsked W.kind client z start now → Goes new poll
+    on : (z : Course) → new ≡ z → FollowsLoading z.loader (mine_back start now client) → FollowsAsked W.kind client z start now →
+        Goes new poll
     on z is h a = (
       subst (λ (x : Course). FollowsLoading x.loader (mine_back start now client)) (sym is) h,
       λ goes. subst (λ (x : Course). FollowsAsked W.kind client x start now) (sym is) a,
     )
 
     look_on : (k : ShardState) (sight : Sight A) → HowSight W q k c.member sight →
-        LastIs (replay_back start (others ++ es)) c.loader.shard k.number k → IsAnsweredScan c.loader.shard (placed e (others ++ es)) →
-        ShowsState (answered e here ∷ was) c.loader.shard k.number k → GoesBy W (holding (counted c) k) q sight new poll → Goes new poll
+        LastIs (replay_back start (others ++ es)) c.loader.shard k.number k →
+        IsAnsweredScan c.loader.shard (placed e (others ++ es)) →
+        ShowsState (answered e here ∷ was) c.loader.shard k.number k → GoesBy W (holding (counted c) k) q sight new poll →
+        Goes new poll
     look_on k sight how last scan shows (p, n) = go how
       where
         ends : (x : Sight A) → sight ≡ x → Ends (sight_poll W (holding (counted c) k) q x) → Goes new poll
@@ -286,12 +288,12 @@ module _ {Q A : Type 0} (W : Questions Q A) (L : IsQuestion W) (start : Stored) 
         reading : IsSomeAnd c.loader.cached (IsGetting W c q)
         reading = at_stage W c q s stages.Get stage
 
-        goes_on : new ≡ record (counted c) { getting = g } → Goes new poll
-        goes_on n =
+        goes_on : BringsBytes here → new ≡ record (counted c) { getting = g } → Goes new poll
+        goes_on bytes n =
             let (key, at, call) = get_is stage in
             let z : Course = record (counted c) { getting = g } in
             let staged_now : FollowsStage W.kind client z start now stages.Get =
-            parts_on c.loader.cached key g fetched (staged_is stages.Get stage) reading at call moves in
+            parts_on c.loader.cached key g fetched (staged_is stages.Get stage) at call bytes moves in
             on z n shown_still
             (record { member = joined_stays; reading = subst (FollowsStage W.kind client z start now) (sym stage) staged_now })
 
@@ -299,15 +301,17 @@ module _ {Q A : Type 0} (W : Questions Q A) (L : IsQuestion W) (start : Stored) 
         ends p h is n = over c.loader p (ap (λ (x : Course). x.loader) n) shown_still h is
 
         go : HowGot c.getting here g fetched → Goes new poll
-        go (gains b part r read_is is (inl (x, left))) = goes_on (told fetches.More x).1
+        go (gains b part r read_is is (inl (x, left))) = let (key, at, call) = get_is stage in
+            goes_on (brings c.loader.cached key b (staged_is stages.Get stage) reading at call r) (told fetches.More x).1
         go (gains b part r read_is is (inr (x, done))) = let m = told fetches.Done x in
             ends (rows_poll W (counted c) q g.rows) (rows_ends W (counted c) q g.rows) m.0 m.1
-        go (fails r is x) = goes_on (told fetches.Fault x).1
+        go (fails r is x) = goes_on (subst BringsBytes (sym r) tt) (told fetches.Fault x).1
         go (misses key r at is x) =
             let z : Course = record (counted c) { getting = g; stage = stages.Check key } in
             let (key2, at2, call) = get_is stage in
             let same : key2 ≡ key = let h : Some key2 ≡ Some key = sym at2 ∙ at in cc in
-            let none = get_shows (replay_back start (others ++ es)) e key None (call ∙ ap (λ (k : PartKey). calls.Get k) same) r in
+            let none = get_shows (replay_back start (others ++ es)) e key None (call
+            ∙ ap (λ (k : PartKey). calls.Get k) same) r in
             on z (told (fetches.Missing key) x).1 shown_still
             (record { member = joined_stays; reading = missing_on c.loader.cached key g (staged_is stages.Get stage) none })
         go (spoilt b key fault r read_is at is x) = let m = told (fetches.Damaged (damages.Part key fault)) x in
@@ -320,7 +324,8 @@ module _ {Q A : Type 0} (W : Questions Q A) (L : IsQuestion W) (start : Stored) 
     read_on (damaged vs damage stage r newest p n) = on (counted c) n shown_still counted_on
     read_on (scanned vs k stage r newest by) =
         let h : IsScanStage c.stage = subst IsScanStage (sym stage) tt in
-        look_on k (sight_of W q k c.member) (how_sight W q k c.member) (scan_last vs k h r newest) (scan_done vs h r) (scan_shows vs k h r newest) by
+        look_on k (sight_of W q k c.member) (how_sight W q k c.member) (scan_last vs k h r newest) (scan_done vs h r)
+        (scan_shows vs k h r newest) by
     read_on (checked key vs k stage r newest p n) =
         let h : IsScanStage c.stage = subst IsScanStage (sym stage) tt in
         over (holding c k).loader (missing_poll W (holding (counted c) k) q key) (ap (λ (x : Course). x.loader) n)

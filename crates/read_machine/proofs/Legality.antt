@@ -1,7 +1,8 @@
 -- What a reading is answered is legal, and nothing that it reads is damaged. Entries go newest first.
-use Rattle.std.proofs.Common.{◌≡◌, ℕ, ◌+◌, ◌<◌, ◌^◌, Bool, true, false, cond, Option, Some, None, Ok, Err, List, [], ◌∷◌, ◌++◌, inl, inr, refl, sym, ap, subst, ◌∙◌, arith, take}
+use Rattle.std.proofs.Common.{◌≡◌, ℕ, ◌+◌, ◌<◌, ◌^◌, Bool, true, false, cond, Option, Some, None, Ok, Err, List, [], ◌∷◌, ◌++◌}
+use Rattle.std.proofs.Common.{inl, inr, refl, sym, ap, subst, ◌∙◌, arith, take}
 use Rattle.std.specs.Prelude.{⊤, IsSomeAnd, is_none}
-use Rattle.std.specs.List.{AllByRecursion, slice_get}
+use Rattle.std.specs.List.{slice_get}
 use Rattle.std.proofs.lemmas.Bool.{eq-eqb}
 use Rattle.update_core.specs.declared.updates.Update.{Update}
 use Rattle.update_core.specs.Updates.{weight_of}
@@ -26,7 +27,7 @@ use Rattle.state_core.proofs.ListLemmas.{each_map}
 use Rattle.history_core.specs.Accepting.{is_cas}
 use Rattle.history_core.specs.Discipline.{GotAs, Hold, IsGot, LawfulBack}
 use Rattle.history_core.specs.Laws.{LastIs}
-use Rattle.history_core.specs.Legal.{Absent, AtLast, HasMember}
+use Rattle.history_core.specs.Legal.{AtLast, HasMember}
 use Rattle.history_core.specs.Members.{JoinedAs}
 use Rattle.history_core.specs.Placing.{AtLastScan, IsAnsweredScan, Placed, placed, places}
 use Rattle.history_core.specs.Readings.{rows_in}
@@ -47,7 +48,7 @@ use Rattle.load_core.specs.PartsFollowing.{BringsBytes, IsGotSoFar}
 use Rattle.load_core.specs.Trying.{more}
 use Rattle.load_core.proofs.GettingFollows.{all_got, got_later, still_got}
 use Rattle.load_core.proofs.Scanned.{undamaged}
-use Rattle.change_core.specs.Changes.{is_gone, number_of}
+use Rattle.change_core.specs.Changes.{is_gone}
 use Rattle.change_core.proofs.Members.{found_kind, found_stands, kind_back, none_stands, places_now}
 use Rattle.read_machine.specs.declared.courses.Course.{Course}
 use Rattle.read_machine.specs.declared.looks.Look.TheVariants as looks
@@ -55,12 +56,14 @@ use Rattle.read_machine.specs.declared.sights.Sight.{Sight}
 use Rattle.read_machine.specs.declared.sights.Sight.TheVariants as sights
 use Rattle.read_machine.specs.declared.stages.Stage.{Stage}
 use Rattle.read_machine.specs.declared.stages.Stage.TheVariants as stages
-use Rattle.read_machine.specs.Courses.{GoesBy, MovesByFetched, counted, expired, holding, missing_poll, read_call, rows_by, rows_poll, sight_of, sight_poll}
+use Rattle.read_machine.specs.Courses.{MovesByFetched, counted, expired, holding, missing_poll, read_call, rows_by, rows_poll}
+use Rattle.read_machine.specs.Courses.{sight_of, sight_poll}
 use Rattle.read_machine.specs.Following.{FollowsAsked, FollowsStage, IsRead, SinceGot, SinceMissing}
-use Rattle.read_machine.specs.Questions.{IsQuestion, NoScanOf, Questions, ShownAt, own_count, since}
+use Rattle.read_machine.specs.Questions.{IsQuestion, NoScanOf, Questions, ShownAt, own_count}
 use Rattle.read_machine.specs.Readings.{IsGetting, SoundBy}
-use Rattle.read_machine.proofs.FollowsOn.{get_is, scan_done, scan_is, scan_last, staged_is}
-use Rattle.read_machine.proofs.HowRead.{HowGot, HowRead, IsScanStage, checked, damaged, fails, gains, got, heavy, misses, scanned, spoilt, unscanned}
+use Rattle.read_machine.proofs.FollowsOn.{get_is, scan_done, scan_is, scan_last}
+use Rattle.read_machine.proofs.HowRead.{HowGot, HowRead, IsScanStage, checked, damaged, fails, gains, got, heavy, misses, scanned}
+use Rattle.read_machine.proofs.HowRead.{spoilt, unscanned}
 use Rattle.read_machine.proofs.Parts.{names_key, some_parts}
 use Rattle.read_machine.proofs.Places.{gone_back, joined_owns, next_count}
 use Rattle.read_machine.proofs.Since.{asked_others}
@@ -69,7 +72,7 @@ use Rattle.read_machine.proofs.Stretch.{replay_behind}
 use Rattle.read_machine.proofs.Undamaged.{got_light, got_reads, last_then, part_reads}
 
 -- the value that is there
-some_is : {T : Type 0} (P : T → Type 0) (o : Option T) → IsSomeAnd o P → (x : T) × (o ≡ Some x) × P x
+pub some_is : {T : Type 0} (P : T → Type 0) (o : Option T) → IsSomeAnd o P → (x : T) × (o ≡ Some x) × P x
 some_is P None h = absurd h
 some_is P (Some x) h = (x, refl, h)
 
@@ -90,7 +93,8 @@ LegalAfter W client c q start list es polls.Spent = ⊥
 LegalAfter W client c q start list es (polls.Damaged damage) = ⊥
 LegalAfter W client c q start list es _ = ⊤
 
-module _ {Q A : Type 0} (W : Questions Q A) (L : IsQuestion W) (start : Stored) (list : List Update) (client : ℕ) (c : Course) (q : Q) (e : Entry)
+module _ {Q A : Type 0} (W : Questions Q A) (L : IsQuestion W) (start : Stored) (list : List Update) (client : ℕ) (c : Course)
+    (q : Q) (e : Entry)
     (others es : List Entry) (s : SoundBy W c q) (call_is : read_call c c.stage ≡ Some e.call) (own : e.client ≡ client)
     (of : OfOthers client others) (st : StandsFor start c.loader.shard list) (lawful : LawfulBack start (e ∷ (others ++ es)))
     (shown : FollowsLoading c.loader (mine_back start es client)) (f : FollowsAsked W.kind client c start es) where
@@ -120,7 +124,8 @@ module _ {Q A : Type 0} (W : Questions Q A) (L : IsQuestion W) (start : Stored) 
       member_of c.member k.members ≡ Some m → m.kind ≡ W.kind
   takes k last m found = found_kind c.member m W.kind k.members found
       (kind_back start (others ++ es) c.loader.shard list st before W.kind client c.member
-      (subst (λ (os : List Answered). JoinedAs W.kind os c.loader.shard c.member) (sym (mine_others start client others es of)) f.member)
+      (subst (λ (os : List Answered). JoinedAs W.kind os c.loader.shard c.member) (sym
+      (mine_others start client others es of)) f.member)
       k.number k last)
 
   -- ---- after a Scan
@@ -134,7 +139,8 @@ module _ {Q A : Type 0} (W : Questions Q A) (L : IsQuestion W) (start : Stored) 
 
     newest_here : (k : ShardState) → newest_after c.loader.shard c.loader.cached vs ≡ Ok (Some k) →
         LastIs (replay_back start (others ++ es)) c.loader.shard k.number k
-    newest_here k newest = scan_last W L start list client c q e others es s call_is own of st lawful shown f vs k stage reply_is newest
+    newest_here k newest = scan_last W L start list client c q e others es s call_is own of st lawful shown f vs k stage reply_is
+        newest
 
     -- no version is damaged
     never_bad : (damage : Damage) → newest_after c.loader.shard c.loader.cached vs ≡ Err damage → ⊥
@@ -164,7 +170,8 @@ module _ {Q A : Type 0} (W : Questions Q A) (L : IsQuestion W) (start : Stored) 
     }
 
     look_legal : (k : ShardState) (sight : Sight A) (poll : Poll A) → HowSight W q k c.member sight →
-        LastIs (replay_back start (others ++ es)) c.loader.shard k.number k → poll ≡ sight_poll W (holding (counted c) k) q sight → LegalOf poll
+        LastIs (replay_back start (others ++ es)) c.loader.shard k.number k →
+        poll ≡ sight_poll W (holding (counted c) k) q sight → LegalOf poll
     look_legal k sight poll how last p = go how
       where
         say : (x : Sight A) → sight ≡ x → LegalOf (sight_poll W (holding (counted c) k) q x) → LegalOf poll
@@ -176,14 +183,17 @@ module _ {Q A : Type 0} (W : Questions Q A) (L : IsQuestion W) (start : Stored) 
             let so : W.takes m.kind ≡ true = ap W.takes (takes k last m at) ∙ L.kind_taken in
             let bad : true ≡ false = sym so ∙ kind in cc)
         go (answers m a at look is) = say (sights.Answer a) is (λ less.
-            L.seen q client c.loader.shard c.member calls_now list start [] e (others ++ es) k a (shown_now k last m at less) look)
+            L.seen q client c.loader.shard c.member calls_now list start [] e (others ++ es) k a
+            (shown_now k last m at less) look)
         go (empty m at look is) = say (sights.Answer (W.answer q k [])) is (λ less.
-            L.got q client c.loader.shard c.member calls_now list start [] e (others ++ es) k [] [] (shown_now k last m at less) look refl)
+            L.got q client c.loader.shard c.member calls_now list start [] e (others ++ es) k [] []
+            (shown_now k last m at less) look refl)
         go (parts m key keys at look is) = say (sights.Parts (key ∷ keys)) is tt
 
   -- ---- the parts that are read
 
-  module _ (k : ShardState) (cached : c.loader.cached ≡ Some k) (w : SinceGot W.kind client c start (others ++ es) k) (reads : IsGetting W c q k)
+  module _ (k : ShardState) (cached : c.loader.cached ≡ Some k) (w : SinceGot W.kind client c start (others ++ es) k)
+      (reads : IsGetting W c q k)
       (stage : c.stage ≡ stages.Get) where
     -- the entries since the Scan with this one, the Scan, those before it, and the store then
     abbrev front : List Entry
@@ -208,7 +218,8 @@ module _ {Q A : Type 0} (W : Questions Q A) (L : IsQuestion W) (start : Stored) 
     own_front =
         let store_is : replay_back then w.since.later ≡ replay_back start (others ++ es) =
         sym (replay_behind start w.since.later (scan ∷ back)) ∙ ap (replay_back start) (sym w.since.split) in
-        rw (eq-eqb e.client client own) (ap (λ (x : Stored). answered e (reply x e) ∷ mine_back then w.since.later client) store_is)
+        rw (eq-eqb e.client client own) (ap (λ (x : Stored). answered e
+        (reply x e) ∷ mine_back then w.since.later client) store_is)
 
     -- the key that is asked for
     key : (x : PartKey) × (getting.key_of c.getting ≡ Some x) × (e.call ≡ calls.Get x)
@@ -222,12 +233,14 @@ module _ {Q A : Type 0} (W : Questions Q A) (L : IsQuestion W) (start : Stored) 
     got_now b is_b =
         let here : IsGot key.0 b (calls.Get key.0) (replies.Bytes (Some b)) = (refl, refl) in
         let this : IsGot key.0 b e.call rep =
-        subst (IsGot key.0 b e.call) (sym is_b) (subst (λ (x : Call). IsGot key.0 b x (replies.Bytes (Some b))) (sym key.2) here) in
+        subst (IsGot key.0 b e.call) (sym is_b) (subst (λ (x : Call). IsGot key.0 b x (replies.Bytes (Some b)))
+        (sym key.2) here) in
         subst (λ (os : List Answered). GotAs os key.0 b) (sym own_front) (inl this)
 
     -- bytes that come are a part
     read_now : (b : List ℕ) → rep ≡ replies.Bytes (Some b) → (part : List Update) × (rows_in b ≡ Some part)
-    read_now b is_b = got_reads client start c.loader.shard list st front scan back lawful_front k w.since.answered w.since.last key.0 b named
+    read_now b is_b = got_reads client start c.loader.shard list st front scan back lawful_front k w.since.answered w.since.last
+        key.0 b named
         (got_now b is_b)
 
     never_spoilt : (b : List ℕ) (fault : PartFault) → rep ≡ replies.Bytes (Some b) → all_of b ≡ Err fault → ⊥
@@ -237,8 +250,10 @@ module _ {Q A : Type 0} (W : Questions Q A) (L : IsQuestion W) (start : Stored) 
         let wrong : Ok part ≡ Err fault = sym good ∙ bad in cc
 
     held_front : Hold (GotAs (mine_back then front client)) (take c.getting.place c.getting.keys) c.getting.rows
-    held_front = subst (λ (os : List Answered). Hold (GotAs os) (take c.getting.place c.getting.keys) c.getting.rows) (sym own_front)
-        (got_later (mine_back then w.since.later client) (answered e rep) (take c.getting.place c.getting.keys) c.getting.rows w.got)
+    held_front = subst (λ (os : List Answered). Hold (GotAs os) (take c.getting.place c.getting.keys) c.getting.rows)
+        (sym own_front)
+        (got_later (mine_back then w.since.later client) (answered e rep)
+        (take c.getting.place c.getting.keys) c.getting.rows w.got)
 
     -- and with those that came before it isn't too heavy
     never_heavy : (b : List ℕ) (part : List Update) → rep ≡ replies.Bytes (Some b) → all_of b ≡ Ok part →
@@ -249,10 +264,12 @@ module _ {Q A : Type 0} (W : Questions Q A) (L : IsQuestion W) (start : Stored) 
         let same : Ok found ≡ Ok part = sym good ∙ reads_it in
         let one : found ≡ part = cc in
         let some = some_parts W L c q k reads in
-        let held2 = subst (λ (ks : List PartKey). Hold (GotAs (mine_back then front client)) (take c.getting.place ks) c.getting.rows)
+        let held2 = subst (λ (ks : List PartKey). Hold (GotAs (mine_back then front client))
+        (take c.getting.place ks) c.getting.rows)
         some.keys_are held_front in
         let at = subst (λ (ks : List PartKey). slice_get ks c.getting.place ≡ Some key.0) some.keys_are key.1 in
-        let le = got_light client start c.loader.shard list st front scan back lawful_front k w.since.answered w.since.last some.test
+        let le = got_light client start c.loader.shard list st front scan back lawful_front k w.since.answered w.since.last
+        some.test
         c.getting.place key.0 b c.getting.rows part held2 at (got_now b is_b)
         (subst (λ (us : List Update). rows_in b ≡ Some us) one reads_as) in
         absurd (omega arith)
@@ -292,7 +309,8 @@ module _ {Q A : Type 0} (W : Questions Q A) (L : IsQuestion W) (start : Stored) 
         let rows_are : polls.Done (W.answer q k g.rows) ≡ rows_poll W (counted c) q g.rows =
         sym (ap (λ (o : Option ShardState). rows_by W o q g.rows) cached) in
         subst LegalOf rows_are
-        (λ less. subst (λ (x : List Entry). W.Legal q c.loader.shard c.member start (places client calls_now x) list (W.answer q k g.rows))
+        (λ less. subst (λ (x : List Entry). W.Legal q c.loader.shard c.member start (places client calls_now x) list
+        (W.answer q k g.rows))
         (sym split) (L.got q client c.loader.shard c.member calls_now list start front scan back k g.keys g.rows (shown_then less)
         (subst (λ (ks : List PartKey). W.look q k ≡ looks.Parts ks) (sym keys_are) reads.keys) held))
 
@@ -324,30 +342,39 @@ module _ {Q A : Type 0} (W : Questions Q A) (L : IsQuestion W) (start : Stored) 
   -- ---- the Scan after a missing part
 
   -- where a named part was missing the member stands no more
-  never_stands : (k : ShardState) (x : PartKey) (w : SinceMissing W.kind client c start (others ++ es) x k) → Names k x → (k2 : ShardState) →
-      LastIs (replay_back start (others ++ es)) c.loader.shard k2.number k2 → (m : Member) → member_of c.member k2.members ≡ Some m → ⊥
+  never_stands : (k : ShardState) (x : PartKey) (w : SinceMissing W.kind client c start (others ++ es) x k) → Names k x →
+      (k2 : ShardState) →
+      LastIs (replay_back start (others ++ es)) c.loader.shard k2.number k2 → (m : Member) →
+      member_of c.member k2.members ≡ Some m → ⊥
   never_stands k x w named k2 last m at =
-      let lawful_there : LawfulBack start (w.since.later ++ (w.since.scan ∷ w.since.before)) = subst (LawfulBack start) w.since.split before in
+      let lawful_there : LawfulBack start (w.since.later ++ (w.since.scan ∷ w.since.before)) = subst
+      (LawfulBack start) w.since.split before in
       let last_there = subst (λ (z : List Entry). LastIs (replay_back start z) c.loader.shard k2.number k2) w.since.split last in
-      let no_cas = each_map (λ y. y.client ≡ client → IsRead y.call) (λ y. y.client ≡ client → is_cas y.call ≡ false) w.since.later
+      let no_cas = each_map (λ y. y.client ≡ client → IsRead y.call) (λ y. y.client ≡ client →
+      is_cas y.call ≡ false) w.since.later
       (λ y h mine. read_no_cas y.call (h mine)) w.since.reads in
       gone_back start (w.since.scan ∷ w.since.before) w.since.later c.loader.shard list st lawful_there k.number k
-      (last_then client start c.loader.shard list st w.since.later w.since.scan w.since.before lawful_there k w.since.answered w.since.last)
-      client c.member (joined_owns W.kind (mine_back start (w.since.scan ∷ w.since.before) client) c.loader.shard c.member w.since.member) no_cas
+      (last_then client start c.loader.shard list st w.since.later w.since.scan w.since.before lawful_there k w.since.answered
+      w.since.last)
+      client c.member (joined_owns W.kind (mine_back start (w.since.scan ∷ w.since.before) client) c.loader.shard c.member
+      w.since.member) no_cas
       w.rest w.mid w.parted x named w.missing k2.number k2 last_there
       (found_stands c.member m (λ y. is_writer y.kind ≡ false) k2.members at (ap is_writer (takes k2 last m at) ∙ L.leased))
 
   -- so that it has expired
-  check_legal : (vs : List Version) (stage : IsScanStage c.stage) (reply_is : rep ≡ replies.Versions vs) (poll : Poll A) (k : ShardState)
+  check_legal : (vs : List Version) (stage : IsScanStage c.stage) (reply_is : rep ≡ replies.Versions vs) (poll : Poll A)
+      (k : ShardState)
       (x : PartKey) → SinceMissing W.kind client c start (others ++ es) x k → Names k x → (k2 : ShardState) →
-      LastIs (replay_back start (others ++ es)) c.loader.shard k2.number k2 → poll ≡ missing_poll W (holding (counted c) k2) q x → LegalOf poll
+      LastIs (replay_back start (others ++ es)) c.loader.shard k2.number k2 →
+      poll ≡ missing_poll W (holding (counted c) k2) q x → LegalOf poll
   check_legal vs stage reply_is poll k x w named k2 last poll_is = go (member_of c.member k2.members) refl
     where
       go : (o : Option Member) → member_of c.member k2.members ≡ o → LegalOf poll
       go None none =
           let gone_now : is_gone c.member (Some k2) ≡ true = ap is_none none in
           told poll (polls.Done (W.expired q k2.number))
-          (poll_is ∙ ap (λ (b : Bool). cond b (expired W (holding (counted c) k2) q) (polls.Damaged (damages.Missing x))) gone_now)
+          (poll_is ∙ ap (λ (b : Bool). cond b (expired W (holding (counted c) k2) q) (polls.Damaged
+          (damages.Missing x))) gone_now)
           (expired_legal vs stage reply_is k2 last none)
       go (Some m) at = absurd (never_stands k x w named k2 last m at)
 

@@ -1,5 +1,6 @@
 -- What the parts of a state weigh: no more than the updates that the state has.
-use Rattle.std.proofs.Common.{◌≡◌, ℕ, zero, suc, ◌+◌, ◌≤◌, Bool, true, false, cond, ◌&&◌, Option, Some, None, List, [], ◌∷◌, ◌++◌, filter, refl, sym, ap, subst, ◌∙◌, arith, take, append_assoc}
+use Rattle.std.proofs.Common.{◌≡◌, ℕ, zero, suc, ◌+◌, ◌≤◌, Bool, true, false, cond, ◌&&◌, Option, Some, None, List, [], ◌∷◌, ◌++◌}
+use Rattle.std.proofs.Common.{filter, refl, sym, ap, subst, ◌∙◌, arith, take, append_assoc}
 use Rattle.std.specs.Prelude.{nat_le, unsigned_abs}
 use Rattle.std.specs.List.{slice_get}
 use Rattle.std.proofs.lemmas.List.{append-nil}
@@ -23,7 +24,8 @@ use Rattle.history_core.specs.Stands.{rows_of_blob, rows_under}
 from_on : Option ℕ → List Update → List Update
 from_on f us = filter (λ u. is_from f u.time) us
 
-weight_if : (b : Bool) (u : Update) (us : List Update) → weight_of (cond b (u ∷ us) us) ≡ cond b (unsigned_abs u.diff) 0 + weight_of us
+weight_if : (b : Bool) (u : Update) (us : List Update) → weight_of (cond b (u ∷ us) us) ≡ cond b
+    (unsigned_abs u.diff) 0 + weight_of us
 weight_if true u us = sum_by-cons (λ (v : Update). unsigned_abs v.diff) u us
 weight_if false u us = omega arith
 
@@ -34,7 +36,8 @@ from_less f (u ∷ us) =
     let one = weight_if (is_from f u.time) u (from_on f us) in
     let all = sum_by-cons (λ (v : Update). unsigned_abs v.diff) u us in
     let rest = from_less f us in
-    let few : cond (is_from f u.time) (unsigned_abs u.diff) 0 ≤ unsigned_abs u.diff = at_most (is_from f u.time) (unsigned_abs u.diff) in
+    let few : cond (is_from f u.time) (unsigned_abs u.diff) 0 ≤ unsigned_abs u.diff = at_most (is_from f u.time)
+    (unsigned_abs u.diff) in
     omega arith
   where
     at_most : (b : Bool) (n : ℕ) → cond b n 0 ≤ n
@@ -78,7 +81,8 @@ both_less (u ∷ us) lower upper h =
 
 -- ---- batches
 
-batch_less : (us : List Update) (b : Batch) → weight_of (batch_of us b.desc) ≤ weight_of (between (Some b.desc.lower) b.desc.upper us)
+batch_less : (us : List Update) (b : Batch) → weight_of (batch_of us b.desc) ≤ weight_of (between
+    (Some b.desc.lower) b.desc.upper us)
 batch_less us b =
     let a = weight_of-cons (span_of us b.desc) in
     let c = weight_of-moved (between (Some b.desc.lower) b.desc.upper us) b.desc.since in
@@ -97,7 +101,8 @@ some_less : (us : List Update) (p : Batch → Bool) (bs : List Batch) → weight
 some_less us p [] = omega arith
 some_less us p (b ∷ bs) = by (p b) (some_less us p bs)
   where
-    by : (x : Bool) → weight_of (held us (filter p bs)) ≤ weight_of (held us bs) → weight_of (held us (cond x (b ∷ filter p bs) (filter p bs))) ≤ weight_of (batch_of us b.desc ++ held us bs)
+    by : (x : Bool) → weight_of (held us (filter p bs)) ≤ weight_of (held us bs) →
+        weight_of (held us (cond x (b ∷ filter p bs) (filter p bs))) ≤ weight_of (batch_of us b.desc ++ held us bs)
     by true rest =
         let a = weight_of-append (batch_of us b.desc) (held us (filter p bs)) in
         let c = weight_of-append (batch_of us b.desc) (held us bs) in
@@ -105,7 +110,8 @@ some_less us p (b ∷ bs) = by (p b) (some_less us p bs)
     by false rest = let c = weight_of-append (batch_of us b.desc) (held us bs) in omega arith
 
 -- what some batches of a spine hold of a list is no heavier than the list
-pub spine_light : (us : List Update) (p : Batch → Bool) (bs : List Batch) → Follows (Some 0) bs → weight_of (held us (filter p bs)) ≤ weight_of us
+pub spine_light : (us : List Update) (p : Batch → Bool) (bs : List Batch) → Follows (Some 0) bs →
+    weight_of (held us (filter p bs)) ≤ weight_of us
 spine_light us p bs ok =
     let a = some_less us p bs in
     let b = held_less us (Some 0) bs ok in
@@ -115,7 +121,8 @@ spine_light us p bs ok =
 -- ---- parts
 
 -- the first parts are no heavier than all
-pub front_light : (store : Stored) (n : ℕ) (ks : List PartKey) → weight_of (rows_under store (take n ks)) ≤ weight_of (rows_under store ks)
+pub front_light : (store : Stored) (n : ℕ) (ks : List PartKey) →
+    weight_of (rows_under store (take n ks)) ≤ weight_of (rows_under store ks)
 front_light store zero [] = omega arith
 front_light store (suc n) [] = omega arith
 front_light store zero (k ∷ ks) = omega arith

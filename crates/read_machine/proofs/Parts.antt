@@ -1,7 +1,8 @@
 -- The parts that a question reads: their keys are named by the state, and there are few; and the call of a reading.
-use Rattle.std.proofs.Common.{◌≡◌, ℕ, zero, suc, ◌+◌, ◌≤◌, ◌^◌, Bool, true, false, cond, Option, Some, None, List, [], ◌∷◌, ◌++◌, length, inl, inr, refl, sym, ap, subst, ◌∙◌, arith}
-use Rattle.std.specs.Prelude.{⊤, filter}
-use Rattle.std.specs.List.{AllByRecursion, slice_get}
+use Rattle.std.proofs.Common.{◌≡◌, ◌+◌, ◌≤◌, Bool, cond, Option, Some, None, List, [], ◌∷◌, length, inl, inr, refl, sym, subst}
+use Rattle.std.proofs.Common.{arith}
+use Rattle.std.specs.Prelude.{filter}
+use Rattle.std.specs.List.{AllByRecursion}
 use Rattle.std.specs.Option.{option_map}
 use Rattle.std.proofs.lemmas.List.{length-append}
 use Rattle.std.proofs.lemmas.List.Sums.{sum_by-cons}
@@ -26,7 +27,8 @@ use Rattle.read_machine.proofs.Undamaged.{index_among}
 
 -- ---- the keys of parts are of batches of the state
 
-some_keys : (p : Batch → Bool) (bs : List Batch) (k : PartKey) → Among (λ q. q ≡ k) (keys_of (filter p bs)) → Among (λ q. q ≡ k) (keys_of bs)
+some_keys : (p : Batch → Bool) (bs : List Batch) (k : PartKey) → Among (λ q. q ≡ k) (keys_of (filter p bs)) →
+    Among (λ q. q ≡ k) (keys_of bs)
 some_keys p [] k h = h
 some_keys p (b ∷ bs) k h =
     elim (bool_cases (p b)) [
@@ -63,7 +65,8 @@ module _ {Q A : Type 0} (W : Questions Q A) (L : IsQuestion W) where
   some_parts c q s g = L.parts q s c.getting.keys g.keys
 
   -- a key that is read is one that the state names
-  pub names_key : (c : Course) (q : Q) (s : ShardState) (k : PartKey) → IsGetting W c q s → getting.key_of c.getting ≡ Some k → Names s k
+  pub names_key : (c : Course) (q : Q) (s : ShardState) (k : PartKey) → IsGetting W c q s → getting.key_of c.getting ≡ Some k →
+      Names s k
   names_key c q s k g at = each_at (Names s) c.getting.keys k (all_named s c.getting.keys (some_parts c q s g))
       (index_among c.getting.keys c.getting.place k at)
 

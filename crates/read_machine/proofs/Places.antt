@@ -1,13 +1,10 @@
 -- Where the calls of a reading stand in a history. Entries go newest first.
-use Rattle.std.proofs.Common.{◌≡◌, ℕ, zero, suc, ◌+◌, ◌<◌, true, false, Option, None, List, [], ◌∷◌, ◌++◌, inl, inr, sym, ap, subst, ◌∙◌, arith, eqb}
+use Rattle.std.proofs.Common.{◌≡◌, ℕ, zero, suc, ◌+◌, ◌<◌, true, false, None, List, [], ◌∷◌, ◌++◌, ◌⊎◌, inl, inr, sym, ap, subst}
+use Rattle.std.proofs.Common.{◌∙◌, arith, eqb}
 use Rattle.std.specs.Prelude.{reverse}
-use Rattle.std.specs.List.{AllByRecursion}
 use Rattle.std.proofs.lemmas.Bool.{eq-eqb, eqb-true}
 use Rattle.std.proofs.lemmas.List.{reverse-append, reverse-reverse}
-use Rattle.update_core.specs.declared.rows.Row.{Row}
 use Rattle.update_core.specs.declared.updates.Update.{Update}
-use Rattle.update_core.specs.Updates.{sum_of, slice_of}
-use Rattle.update_core.specs.Collections.{snapshot_answer, listen_answer, content, step}
 use Rattle.store_core.specs.declared.shards.ShardId.{ShardId}
 use Rattle.store_core.specs.declared.part_keys.PartKey.{PartKey}
 use Rattle.store_core.specs.declared.entries.Entry.{Entry}
@@ -17,26 +14,21 @@ use Rattle.store_core.specs.Ports.{Answered, with_entries}
 use Rattle.store_core.specs.Newest.{mine_back, replay_back}
 use Rattle.store_core.proofs.NewestLaws.{mine-newest, replay-newest}
 use Rattle.state_core.specs.declared.kinds.Kind.{Kind}
-use Rattle.state_core.specs.Lists.{Among}
-use Rattle.state_core.specs.States.{Names, ShardState, is_writer, keys_of}
+use Rattle.state_core.specs.States.{Names, ShardState, is_writer}
 use Rattle.state_core.specs.Steps.{Stands}
 use Rattle.state_core.specs.VersionReading.{most}
 use Rattle.state_core.proofs.ListLemmas.{among_map, bool_cases}
 use Rattle.history_core.specs.Accepting.{is_cas}
 use Rattle.history_core.specs.Answers.{own_of, own_past}
-use Rattle.history_core.specs.Discipline.{GotAs, Hold, IsGot, IsJoin, Lawful, LawfulBack, Owns}
+use Rattle.history_core.specs.Discipline.{GotAs, IsGot, IsJoin, Lawful, LawfulBack, Owns}
 use Rattle.history_core.specs.Laws.{LastIs}
-use Rattle.history_core.specs.Legal.{collection_in}
 use Rattle.history_core.specs.Members.{IsKindJoin, JoinedAs}
-use Rattle.history_core.specs.Placing.{AtLastScan, GotSinceScan, IsAnsweredScan, Placed, placed, places}
-use Rattle.history_core.specs.Questions.{begun_by, ending_past}
-use Rattle.history_core.specs.Stands.{StandsFor, accepted}
+use Rattle.history_core.specs.Placing.{AtLastScan, IsAnsweredScan, Placed, placed, places, reply_at}
+use Rattle.history_core.specs.Stands.{StandsFor}
 use Rattle.history_core.specs.StretchLaws.{NoCasOf}
-use Rattle.history_core.proofs.GotRows.{rows_law, step_law}
 use Rattle.history_core.proofs.Holding.{missing_law}
 use Rattle.history_core.proofs.LawfulLaws.{store_both, turned}
 use Rattle.history_core.proofs.MemberStands.{is_join}
-use Rattle.history_core.proofs.StepStands.{rows_stand_law}
 use Rattle.history_core.proofs.Walking.{all_back}
 use Rattle.load_core.specs.Trying.{more}
 use Rattle.load_core.proofs.Gaining.{lawful_forth}
@@ -55,38 +47,44 @@ is_mine client e eq = eq-eqb e.client client eq
 -- where no Scan of a client was answered since one of a command, what holds at that one's place holds at the last answered Scan
 pub at_last : (client n : ℕ) (shard : ShardId) (later : List Entry) (scan : Entry) (before : List Entry) (P : Placed → Type 0) →
     NoScanOf client shard later → own_count client later < n → scan.client ≡ client →
-    IsAnsweredScan shard (placed scan before) → P (placed scan before) → AtLastScan shard P (places client n (later ++ (scan ∷ before)))
+    IsAnsweredScan shard (placed scan before) → P (placed scan before) →
+    AtLastScan shard P (places client n (later ++ (scan ∷ before)))
 at_last client zero shard later scan before P quiet few own answered p = absurd (omega arith)
 at_last client (suc n) shard [] scan before P quiet few own answered p = rw (is_mine client scan own) (inl (answered, p))
 at_last client (suc n) shard (x ∷ xs) scan before P quiet few own answered p = elim (bool_cases (eqb x.client client)) [
   | inl e ↦
       let few2 : own_count client xs + 1 < suc n = rw e at few in
-      rw e (inr (quiet.0 (eqb-true x.client client e), at_last client n shard xs scan before P quiet.1 (omega arith) own answered p))
+      rw e (inr (
+        quiet.0 (eqb-true x.client client e),
+        at_last client n shard xs scan before P quiet.1
+            (omega arith) own answered p,
+      ))
   | inr e ↦
       let few2 : own_count client xs < suc n = rw e at few in
       rw e (at_last client (suc n) shard xs scan before P quiet.1 few2 own answered p)
 ]
 
--- and bytes that it got since the Scan were got since the last answered Scan
-pub got_since : (client n : ℕ) (start : Stored) (shard : ShardId) (k : PartKey) (b : List ℕ) (later : List Entry) (scan : Entry) (before : List Entry) →
-    NoScanOf client shard later → own_count client later < n →
-    GotAs (mine_back (replay_back start (scan ∷ before)) later client) k b → GotSinceScan start shard k (places client n (later ++ (scan ∷ before)))
-got_since client zero start shard k b later scan before quiet few got = absurd (omega arith)
-got_since client (suc n) start shard k b [] scan before quiet few got = absurd got
-got_since client (suc n) start shard k b (x ∷ xs) scan before quiet few got = elim (bool_cases (eqb x.client client)) [
+-- What the client got since the Scan was got since the last answered Scan: with how X goes on past an entry that is no answered
+-- Scan.
+pub since_got : (client n : ℕ) (start : Stored) (shard : ShardId) (k : PartKey) (b : List ℕ) (X : List Placed → Type 0) →
+    ((p : Placed) (ps : List Placed) → ¬ IsAnsweredScan shard p → IsGot k b p.entry.call (reply_at start p) ⊎ X ps → X (p ∷ ps)) →
+    (later : List Entry) (scan : Entry) (before : List Entry) → NoScanOf client shard later → own_count client later < n →
+    GotAs (mine_back (replay_back start (scan ∷ before)) later client) k b → X (places client n (later ++ (scan ∷ before)))
+since_got client zero start shard k b X on later scan before quiet few got = absurd (omega arith)
+since_got client (suc n) start shard k b X on [] scan before quiet few got = absurd got
+since_got client (suc n) start shard k b X on (x ∷ xs) scan before quiet few got = elim (bool_cases (eqb x.client client)) [
   | inl e ↦
       let few2 : own_count client xs + 1 < suc n = rw e at few in
       let got2 = rw e at got in
-      rw e (
-        quiet.0 (eqb-true x.client client e),
-        elim got2 [
-          | inl here ↦ inl (b, subst (λ (s : Stored). IsGot k b x.call (reply s x)) (sym (replay_behind start xs (scan ∷ before))) here)
-          | inr older ↦ inr (got_since client n start shard k b xs scan before quiet.1 (omega arith) older)
-        ],
-      )
+      rw e (on (placed x (xs ++ (scan ∷ before))) (places client n (xs ++ (scan ∷ before))) (quiet.0
+      (eqb-true x.client client e)) (elim got2 [
+        | inl here ↦ inl (subst (λ (s : Stored). IsGot k b x.call (reply s x)) (sym (replay_behind start xs
+            (scan ∷ before))) here)
+        | inr older ↦ inr (since_got client n start shard k b X on xs scan before quiet.1 (omega arith) older)
+      ]))
   | inr e ↦
       let few2 : own_count client xs < suc n = rw e at few in
-      rw e (got_since client (suc n) start shard k b xs scan before quiet.1 few2 (rw e at got))
+      rw e (since_got client (suc n) start shard k b X on xs scan before quiet.1 few2 (rw e at got))
 ]
 
 -- ---- laws of histories, with the newest entry first
@@ -124,23 +122,31 @@ module _ (start : Stored) (es later : List Entry) where
 
   -- where a named key was absent and the member's owner made no Cas, the member stands no more as one that holds
   pub gone_back : (shard : ShardId) (list : List Update) → StandsFor start shard list → LawfulBack start (later ++ es) →
-      (n : ℕ) (s : ShardState) → LastIs (replay_back start es) shard n s → (c member : ℕ) → Owns (mine_back start es c) shard member → NoCasOf c later →
-      (newer mid : List Entry) → later ≡ newer ++ mid → (k : PartKey) → Names s k → (replay_back start (mid ++ es)).blobs k ≡ None →
+      (n : ℕ) (s : ShardState) → LastIs (replay_back start es) shard n s → (c member : ℕ) →
+      Owns (mine_back start es c) shard member → NoCasOf c later →
+      (newer mid : List Entry) → later ≡ newer ++ mid → (k : PartKey) → Names s k →
+      (replay_back start (mid ++ es)).blobs k ≡ None →
       (number : ℕ) (last : ShardState) → LastIs (replay_back start (later ++ es)) shard number last →
       ¬ Stands member (λ m. is_writer m.kind ≡ false) last.members
   gone_back shard list st l n s is c member owns quiet newer mid split k named none number last now =
-      missing_law shard list (past start es) after st (lawful_is l) n s (subst (λ (q : Stored). LastIs q shard n s) (sym (store_is start es)) is) c member
+      missing_law shard list (past start es) after st (lawful_is l) n s (subst (λ (q : Stored). LastIs q shard n s) (sym
+      (store_is start es)) is) c member
       (subst (λ (own : List Answered). Owns own shard member) (sym (own_is start es c)) owns)
       (all_back (λ e. e.client ≡ c → is_cas e.call ≡ false) later quiet) (reverse mid) (reverse newer)
       (ap reverse split ∙ reverse-append newer mid) k named
-      (subst (λ (q : Stored). q.blobs k ≡ None) (sym (store_both (past start es) (reverse mid) ∙ turned_store mid)) none) number last
+      (subst (λ (q : Stored). q.blobs k ≡ None) (sym (store_both (past start es) (reverse mid)
+      ∙ turned_store mid)) none) number last
       (subst (λ (q : Stored). LastIs q shard number last) (sym (store_both (past start es) after ∙ turned_store later)) now)
     where
-      turned_store : (q : List Entry) → replay_back start (reverse (reverse q) ++ reverse (reverse es)) ≡ replay_back start (q ++ es)
-      turned_store q = ap (λ (w : List Entry). replay_back start (w ++ reverse (reverse es))) (reverse-reverse q) ∙ ap (λ (w : List Entry). replay_back start (q ++ w)) (reverse-reverse es)
+      turned_store : (q : List Entry) → replay_back start (reverse (reverse q) ++ reverse (reverse es)) ≡ replay_back start
+          (q ++ es)
+      turned_store q = ap (λ (w : List Entry). replay_back start (w ++ reverse (reverse es))) (reverse-reverse q)
+          ∙ ap (λ (w : List Entry). replay_back start (q ++ w)) (reverse-reverse es)
 
 -- a client's Join makes the member its own
-pub joined_owns : (kind : Kind) (own : List Answered) (shard : ShardId) (member : ℕ) → JoinedAs kind own shard member → Owns own shard member
+pub joined_owns : (kind : Kind) (own : List Answered) (shard : ShardId) (member : ℕ) → JoinedAs kind own shard member →
+    Owns own shard member
 joined_owns kind own shard member h =
-    among_map (λ (o : Answered). IsKindJoin kind shard member o.entry.call o.reply) (λ (o : Answered). IsJoin shard member o.entry.call o.reply) own
+    among_map (λ (o : Answered). IsKindJoin kind shard member o.entry.call o.reply) (λ
+    (o : Answered). IsJoin shard member o.entry.call o.reply) own
     (λ o j. is_join kind shard member o.entry.call o.reply j) h

@@ -1,7 +1,7 @@
 -- What is known since a Scan stays known, past entries of others and with one more of the client. Entries go newest first.
-use Rattle.std.proofs.Common.{◌≡◌, ℕ, ◌+◌, ◌<◌, min, None, Option, Some, List, [], ◌∷◌, ◌++◌, take, refl, sym, ap, subst, ◌∙◌, append_assoc, arith}
+use Rattle.std.proofs.Common.{◌≡◌, ℕ, ◌+◌, ◌<◌, min, None, Option, Some, List, [], ◌∷◌, ◌++◌, take, refl, sym, ap, subst, ◌∙◌}
+use Rattle.std.proofs.Common.{append_assoc, arith}
 use Rattle.std.specs.Prelude.{IsSomeAnd}
-use Rattle.std.specs.List.{AllByRecursion}
 use Rattle.store_core.specs.declared.shards.ShardId.{ShardId}
 use Rattle.store_core.specs.declared.part_keys.PartKey.{PartKey}
 use Rattle.store_core.specs.declared.entries.Entry.{Entry}
@@ -41,11 +41,13 @@ module _ (kind : Kind) (start : Stored) (client : ℕ) (others es : List Entry) 
     member = w.member;
   }
 
-  staged_others : (stage : Stage) → FollowsStage kind client c start es stage → FollowsStage kind client c start (others ++ es) stage
+  staged_others : (stage : Stage) → FollowsStage kind client c start es stage →
+      FollowsStage kind client c start (others ++ es) stage
   staged_others stages.Scan h = tt
   staged_others stages.Get h = on c.loader.cached h
     where
-      on : (o : Option ShardState) → IsSomeAnd o (SinceGot kind client c start es) → IsSomeAnd o (SinceGot kind client c start (others ++ es))
+      on : (o : Option ShardState) → IsSomeAnd o (SinceGot kind client c start es) →
+          IsSomeAnd o (SinceGot kind client c start (others ++ es))
       on None w = absurd w
       on (Some k) w = record {
         since = since_others k w.since;
@@ -69,7 +71,8 @@ module _ (kind : Kind) (start : Stored) (client : ℕ) (others es : List Entry) 
 
   pub asked_others : FollowsAsked kind client c start es → FollowsAsked kind client c start (others ++ es)
   asked_others f = record {
-    member = subst (λ (os : List Answered). JoinedAs kind os c.loader.shard c.member) (sym (mine_others start client others es of)) f.member;
+    member = subst (λ (os : List Answered). JoinedAs kind os c.loader.shard c.member) (sym
+        (mine_others start client others es of)) f.member;
     reading = staged_others c.stage f.reading;
   }
 
@@ -93,7 +96,8 @@ module _ (kind : Kind) (start : Stored) (client : ℕ) (e : Entry) (others es : 
   }
 
   -- one more Scan that failed, or Get, and the rows that are held then
-  pub got_more : (c z : Course) (k : ShardState) → z.loader.shard ≡ c.loader.shard → z.member ≡ c.member → z.calls ≡ more c.calls →
+  pub got_more : (c z : Course) (k : ShardState) → z.loader.shard ≡ c.loader.shard → z.member ≡ c.member →
+      z.calls ≡ more c.calls →
       IsRead e.call → (¬ IsAnsweredScan c.loader.shard (placed e [])) → (w : SinceGot kind client c start es k) →
       Hold (GotAs (answered e (reply (replay_back start (others ++ es)) e) ∷
       mine_back (replay_back start (w.since.scan ∷ w.since.before)) w.since.later client)) (take z.getting.place z.getting.keys)
@@ -114,18 +118,21 @@ module _ (kind : Kind) (start : Stored) (client : ℕ) (e : Entry) (others es : 
   }
 
   -- the same where a key was missing
-  pub missing_more : (c z : Course) (k : ShardState) (key : PartKey) → z.loader.shard ≡ c.loader.shard → z.member ≡ c.member → IsRead e.call →
+  pub missing_more : (c z : Course) (k : ShardState) (key : PartKey) → z.loader.shard ≡ c.loader.shard → z.member ≡ c.member →
+      IsRead e.call →
       SinceMissing kind client c start es key k → SinceMissing kind client z start (e ∷ (others ++ es)) key k
   missing_more c z k key shard member read w = record {
     since = since_more c z k shard member read w.since;
     rest = e ∷ (others ++ w.rest);
     mid = w.mid;
-    parted = ap (λ (q : List Entry). e ∷ (others ++ q)) w.parted ∙ ap (λ (q : List Entry). e ∷ q) (sym (append_assoc others w.rest w.mid));
+    parted = ap (λ (q : List Entry). e ∷ (others ++ q)) w.parted
+        ∙ ap (λ (q : List Entry). e ∷ q) (sym (append_assoc others w.rest w.mid));
     missing = w.missing;
   }
 
   -- a key is missing at this entry
-  pub missing_now : (c z : Course) (k : ShardState) (key : PartKey) → z.loader.shard ≡ c.loader.shard → z.member ≡ c.member → IsRead e.call →
+  pub missing_now : (c z : Course) (k : ShardState) (key : PartKey) → z.loader.shard ≡ c.loader.shard → z.member ≡ c.member →
+      IsRead e.call →
       (replay_back start (others ++ es)).blobs key ≡ None → SinceGot kind client c start es k →
       SinceMissing kind client z start (e ∷ (others ++ es)) key k
   missing_now c z k key shard member read none w = record {
@@ -134,5 +141,6 @@ module _ (kind : Kind) (start : Stored) (client : ℕ) (e : Entry) (others es : 
     mid = others ++ w.since.later;
     parted = refl;
     missing = subst (λ (q : List Entry). (replay_back start q).blobs key ≡ None)
-        (ap (λ (q : List Entry). others ++ q) w.since.split ∙ sym (append_assoc others w.since.later (w.since.scan ∷ w.since.before))) none;
+        (ap (λ (q : List Entry). others ++ q) w.since.split ∙ sym (append_assoc others w.since.later
+        (w.since.scan ∷ w.since.before))) none;
   }

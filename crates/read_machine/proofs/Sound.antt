@@ -1,6 +1,7 @@
 -- A reading is sound after what a reply comes to.
-use Rattle.std.proofs.Common.{◌≡◌, ℕ, Bool, true, false, Option, Some, None, List, [], ◌∷◌, inl, inr, refl, sym, ap, subst, ◌∙◌, arith}
-use Rattle.std.specs.Prelude.{⊤, IsSome, IfSome, IsSomeAnd, if◌then◌else◌}
+use Rattle.std.proofs.Common.{◌≡◌, ℕ, Bool, true, false, Option, Some, None, List, [], ◌∷◌, inl, inr, refl, sym, ap, subst, ◌∙◌}
+use Rattle.std.proofs.Common.{arith}
+use Rattle.std.specs.Prelude.{⊤, IfSome, IsSomeAnd, if◌then◌else◌}
 use Rattle.store_core.specs.declared.part_keys.PartKey.{PartKey}
 use Rattle.store_core.specs.declared.replies.Reply.{Reply}
 use Rattle.state_core.specs.declared.members.Member.{Member}
@@ -23,10 +24,12 @@ use Rattle.read_machine.specs.declared.sights.Sight.{Sight}
 use Rattle.read_machine.specs.declared.sights.Sight.TheVariants as sights
 use Rattle.read_machine.specs.declared.stages.Stage.{Stage}
 use Rattle.read_machine.specs.declared.stages.Stage.TheVariants as stages
-use Rattle.read_machine.specs.Courses.{GoesBy, MovesByFetched, MovesByStage, counted, expired, holding, look_sight, member_sight, missing_poll, rows_by, rows_poll, sight_of, sight_poll, staged}
+use Rattle.read_machine.specs.Courses.{GoesBy, MovesByFetched, MovesByStage, counted, expired, holding, look_sight, member_sight}
+use Rattle.read_machine.specs.Courses.{missing_poll, rows_by, rows_poll, sight_of, sight_poll, staged}
 use Rattle.read_machine.specs.Questions.{Questions}
 use Rattle.read_machine.specs.Readings.{IsGetting, IsReading, IsSound, SoundBy, asked_after}
-use Rattle.read_machine.proofs.HowRead.{HowGot, gains, fails, misses, spoilt, heavy, HowRead, unscanned, damaged, scanned, checked, got, how_read}
+use Rattle.read_machine.proofs.HowRead.{HowGot, gains, fails, misses, spoilt, heavy, HowRead, unscanned, damaged, scanned}
+use Rattle.read_machine.proofs.HowRead.{checked, got, how_read}
 
 -- the poll ends the command
 abbrev pub Ends : {A : Type 0} → Poll A → Type 0
@@ -47,15 +50,18 @@ module _ {Q A : Type 0} (W : Questions Q A) where
         HowSight q s member sight
     answers : (m : Member) (a : A) → member_of member s.members ≡ Some m → W.look q s ≡ looks.Answer a → sight ≡ sights.Answer a →
         HowSight q s member sight
-    empty : (m : Member) → member_of member s.members ≡ Some m → W.look q s ≡ looks.Parts [] → sight ≡ sights.Answer (W.answer q s []) →
+    empty : (m : Member) → member_of member s.members ≡ Some m → W.look q s ≡ looks.Parts [] →
+        sight ≡ sights.Answer (W.answer q s []) →
         HowSight q s member sight
-    parts : (m : Member) (k : PartKey) (ks : List PartKey) → member_of member s.members ≡ Some m → W.look q s ≡ looks.Parts (k ∷ ks) →
+    parts : (m : Member) (k : PartKey) (ks : List PartKey) → member_of member s.members ≡ Some m →
+        W.look q s ≡ looks.Parts (k ∷ ks) →
         sight ≡ sights.Parts (k ∷ ks) → HowSight q s member sight
 
   pub how_sight : (q : Q) (s : ShardState) (member : ℕ) → HowSight q s member (sight_of W q s member)
   how_sight q s member = go (member_of member s.members) refl
     where
-      by : (m : Member) (l : Look A) → member_of member s.members ≡ Some m → W.look q s ≡ l → HowSight q s member (look_sight W q s l)
+      by : (m : Member) (l : Look A) → member_of member s.members ≡ Some m → W.look q s ≡ l →
+          HowSight q s member (look_sight W q s l)
       by m (looks.Answer a) at e = answers m a at e refl
       by m (looks.Parts []) at e = empty m at e refl
       by m (looks.Parts (k ∷ ks)) at e = parts m k ks at e refl
@@ -72,7 +78,8 @@ module _ {Q A : Type 0} (W : Questions Q A) where
   either_ends false p r h k = k
 
   pub missing_ends : (c : Course) (q : Q) (key : PartKey) → Ends (missing_poll W c q key)
-  missing_ends c q key = either_ends (is_gone c.member c.loader.cached) (expired W c q) (polls.Damaged (damages.Missing key)) tt tt
+  missing_ends c q key = either_ends (is_gone c.member c.loader.cached) (expired W c q) (polls.Damaged
+      (damages.Missing key)) tt tt
 
   pub rows_ends : (c : Course) (q : Q) (rows : _) → Ends (rows_poll W c q rows)
   rows_ends c q rows = go c.loader.cached
@@ -84,8 +91,10 @@ module _ {Q A : Type 0} (W : Questions Q A) where
   -- ---- it is sound while it goes on
 
   -- the parts that are got stay the question's
-  getting_as : (c : Course) (q : Q) (n : ℕ) (st : Stage) (g : Getting) (cached : Option ShardState) → IsSomeAnd cached (IsGetting W c q) →
-      g.keys ≡ c.getting.keys → getting.IsOpen g → IsSomeAnd cached (IsGetting W (record c { calls = n; stage = st; getting = g }) q)
+  getting_as : (c : Course) (q : Q) (n : ℕ) (st : Stage) (g : Getting) (cached : Option ShardState) →
+      IsSomeAnd cached (IsGetting W c q) →
+      g.keys ≡ c.getting.keys → getting.IsOpen g → IsSomeAnd cached (IsGetting W
+      (record c { calls = n; stage = st; getting = g }) q)
   getting_as c q n st g None h keys left = absurd h
   getting_as c q n st g (Some s) h keys left = record {
     found = h.found;
@@ -119,7 +128,8 @@ module _ {Q A : Type 0} (W : Questions Q A) where
       ended : (p : Poll A) → Ends p → poll ≡ p → SoundBy W new q
       ended p h e = absurd (goes (subst Ends (sym e) h))
 
-      sight_sound : (k : ShardState) (sight : Sight A) → HowSight q k old.member sight → GoesBy W (holding (counted old) k) q sight new poll →
+      sight_sound : (k : ShardState) (sight : Sight A) → HowSight q k old.member sight →
+          GoesBy W (holding (counted old) k) q sight new poll →
           SoundBy W new q
       sight_sound k sight how (p, n) = go how
         where
@@ -157,16 +167,20 @@ module _ {Q A : Type 0} (W : Questions Q A) where
               (record { known = s.known; reading = subst (λ (st : Stage). IsReading W z st q) (sym stage) reads })
 
           go : HowGot old.getting reply g fetched → SoundBy W new q
-          go (gains b part r read is (inl (f, open_part))) = goes_on (told fetches.More f).1 (ap (λ (k : Getting). k.keys) is) open_part
-          go (gains b part r read is (inr (f, done))) = ended (rows_poll W (counted old) q g.rows) (rows_ends (counted old) q g.rows)
+          go (gains b part r read is (inl (f, open_part))) = goes_on (told fetches.More f).1 (ap (λ
+              (k : Getting). k.keys) is) open_part
+          go (gains b part r read is (inr (f, done))) = ended (rows_poll W (counted old) q g.rows) (rows_ends
+              (counted old) q g.rows)
               (told fetches.Done f).0
-          go (fails r is f) = goes_on (told fetches.Fault f).1 (ap (λ (k : Getting). k.keys) is) (subst getting.IsOpen (sym is) left)
+          go (fails r is f) = goes_on (told fetches.Fault f).1 (ap (λ (k : Getting). k.keys) is) (subst getting.IsOpen
+              (sym is) left)
           go (misses key r at is f) =
               subst (λ (c : Course). SoundBy W c q) (sym (told (fetches.Missing key) f).1)
               (record {
                 known = s.known;
                 reading = (
-                  getting_as old q (counted old).calls (stages.Check key) g old.loader.cached reading (ap (λ (k : Getting). k.keys) is)
+                  getting_as old q (counted old).calls (stages.Check key) g old.loader.cached reading (ap (λ
+                      (k : Getting). k.keys) is)
                       (subst getting.IsOpen (sym is) left),
                   ap getting.key_of is ∙ at,
                 );

@@ -1,6 +1,8 @@
--- What a reader gets of the parts of the state that its Scan showed: the bytes that were there then, and they are parts that aren't too heavy.
+-- What a reader gets of the parts of the state that its Scan showed: the bytes that were there then, and they are parts that
+-- aren't too heavy.
 -- Entries go newest first.
-use Rattle.std.proofs.Common.{◌≡◌, ℕ, zero, suc, ◌≤◌, ◌^◌, Bool, true, false, ◌&&◌, Some, None, Result, Ok, Err, List, [], ◌∷◌, ◌++◌, filter, inl, inr, refl, sym, ap, subst, ◌∙◌, arith, take}
+use Rattle.std.proofs.Common.{◌≡◌, ℕ, zero, suc, ◌≤◌, ◌^◌, Bool, true, false, ◌&&◌, Some, None, Result, Ok, Err, List, [], ◌∷◌}
+use Rattle.std.proofs.Common.{◌++◌, filter, inl, inr, refl, sym, ap, subst, ◌∙◌, arith, take}
 use Rattle.std.specs.Prelude.{nat_lt}
 use Rattle.std.specs.List.{AllByRecursion, slice_get}
 use Rattle.std.specs.Result.{result_ok}
@@ -28,7 +30,8 @@ use Rattle.history_core.specs.Discipline.{GotAs, Hold, IsGot, LawfulBack}
 use Rattle.history_core.specs.Laws.{LastIs}
 use Rattle.history_core.specs.Placing.{IsAnsweredScan, placed}
 use Rattle.history_core.specs.Readings.{are_bytes, rows_in}
-use Rattle.history_core.specs.Stands.{BatchHolds, IsPresent, PartRows, StandsFor, accepted, appended, rows_of_blob, rows_or_none, rows_under}
+use Rattle.history_core.specs.Stands.{BatchHolds, IsPresent, PartRows, StandsFor, accepted, appended, rows_of_blob, rows_or_none}
+use Rattle.history_core.specs.Stands.{rows_under}
 use Rattle.history_core.proofs.Bases.{Base, base_of}
 use Rattle.history_core.proofs.Blobs.{Begins, got_now}
 use Rattle.history_core.proofs.Contents.{hold_rows, part_rows_under, rows_held}
@@ -67,7 +70,11 @@ pub record IsRead (b : List ℕ) (rows : List Update) : Type 0 where
 pub part_reads : (b : List ℕ) (rows : List Update) → rows_in b ≡ Some rows → IsRead b rows
 unfolding rows_in
 part_reads b rows h = elim (bool_cases (are_bytes b)) [
-  | inl e ↦ let h2 : result_ok (all_of b) ≡ Some rows = rw e at h in record { bytes = bytes_of_test b e; reads = ok_from (all_of b) rows h2 }
+  | inl e ↦ let h2 : result_ok (all_of b) ≡ Some rows = rw e at h in record {
+    bytes = bytes_of_test b e;
+    reads = ok_from
+        (all_of b) rows h2;
+  }
   | inr e ↦ let h2 : None ≡ Some rows = rw e at h in absurd (cc)
 ]
 
@@ -76,14 +83,16 @@ part_reads b rows h = elim (bool_cases (are_bytes b)) [
 -- a later Get of a key that is there is answered with the bytes that are there, where it is answered with bytes
 got_later : (start : Stored) (shard : ShardId) (start_member : ℕ) → Begins start shard start_member → (fs es : List Entry) →
     LawfulBack start (fs ++ es) → (c : ℕ) (k : PartKey) (b got : List ℕ) → k.shard ≡ shard →
-    (replay_back start es).blobs k ≡ Some b → GotAs (mine_back (replay_back start es) fs c) k got → (replay_back start es).blobs k ≡ Some got
+    (replay_back start es).blobs k ≡ Some b → GotAs (mine_back (replay_back start es) fs c) k got →
+    (replay_back start es).blobs k ≡ Some got
 got_later start shard m begin [] es l c k b got here there h = absurd h
 got_later start shard m begin (f ∷ fs) es l c k b got here there h =
     let older = lawful_older start f (fs ++ es) l in
     elim (among_mine (λ (o : Answered). IsGot k got o.entry.call o.reply) (replay_back start es) f fs c h) [
       | inl p ↦
           let (found, keeps) = got_now k got (replay_back (replay_back start es) fs) f.call f.outcome p.1 in
-          let found2 : (replay_back start (fs ++ es)).blobs k ≡ Some got = ap (λ (s : Stored). s.blobs k) (replay_behind start fs es) ∙ found in
+          let found2 : (replay_back start (fs ++ es)).blobs k ≡ Some got = ap (λ (s : Stored). s.blobs k)
+          (replay_behind start fs es) ∙ found in
           let (o, holds) = bytes_stay start shard m begin fs es older k b here there in
           elim holds [
             | inl none ↦ absurd (let e : None ≡ Some got = sym none ∙ found2 in cc)
@@ -93,10 +102,12 @@ got_later start shard m begin (f ∷ fs) es l c k b got here there h =
     ]
 
 -- a Scan appends nothing
-scan_adds : (start : Stored) (shard at : ShardId) (list : List Update) (from : ℕ) (e : Entry) (es : List Entry) → e.call ≡ calls.Scan at from →
+scan_adds : (start : Stored) (shard at : ShardId) (list : List Update) (from : ℕ) (e : Entry) (es : List Entry) →
+    e.call ≡ calls.Scan at from →
     accepted shard list start (e ∷ es) ≡ accepted shard list start es
 scan_adds start shard at list from e es call =
-    ap (λ (c : Call). accepted shard list start es ++ appended (replay_back start es) shard e c) call ∙ append-nil (accepted shard list start es)
+    ap (λ (c : Call). accepted shard list start es ++ appended (replay_back start es) shard e c) call
+    ∙ append-nil (accepted shard list start es)
 
 -- an element at an index is among the list
 pub index_among : {A : Type 0} (xs : List A) (i : ℕ) (x : A) → slice_get xs i ≡ Some x → Among (λ y. y ≡ x) xs
@@ -106,7 +117,8 @@ index_among (y ∷ xs) (suc i) x h = inr (index_among xs i x h)
 
 -- ---- since a Scan that showed the state s
 
-module _ (client : ℕ) (start : Stored) (shard : ShardId) (list : List Update) (st : StandsFor start shard list) (later : List Entry) (scan : Entry) (before : List Entry)
+module _ (client : ℕ) (start : Stored) (shard : ShardId) (list : List Update) (st : StandsFor start shard list)
+    (later : List Entry) (scan : Entry) (before : List Entry)
     (lawful : LawfulBack start (later ++ (scan ∷ before))) (s : ShardState) (answered : IsAnsweredScan shard (placed scan before))
     (last : LastIs (replay_back start before) shard s.number s) where
   -- the store then
@@ -147,7 +159,8 @@ module _ (client : ℕ) (start : Stored) (shard : ShardId) (list : List Update) 
       got_later start shard base.start_member base.begin later (scan ∷ before) lawful client k p.0 b fits.of_shard p.2 got
 
   -- which are a part
-  pub got_reads : (k : PartKey) (b : List ℕ) → Names s k → GotAs (mine_back then later client) k b → (rows : List Update) × (rows_in b ≡ Some rows)
+  pub got_reads : (k : PartKey) (b : List ℕ) → Names s k → GotAs (mine_back then later client) k b →
+      (rows : List Update) × (rows_in b ≡ Some rows)
   got_reads k b named got =
       let (b2, rows, is, reads) = there k named in
       let is2 : then.blobs k ≡ Some b = got_is k b named got in
@@ -160,7 +173,8 @@ module _ (client : ℕ) (start : Stored) (shard : ShardId) (list : List Update) 
   light : weight_of updates ≤ 2 ^ 62
   light =
       let c = here.collection in
-      let (numbers, same) = last_one shard (then.logs shard) c.number s.number c.last s c.newest c.state last_then.0 last_then.1 in
+      let (numbers, same) = last_one shard (then.logs shard) c.number s.number c.last s c.newest c.state last_then.0 last_then.1
+      in
       let a : weight_of updates ≤ c.last.weight = c.light in
       let b : c.last.weight ≡ s.weight = ap (λ (x : ShardState). x.weight) same in
       let d : s.weight ≤ 2 ^ 62 = rules.light in
@@ -171,7 +185,8 @@ module _ (client : ℕ) (start : Stored) (shard : ShardId) (list : List Update) 
   front_weight p n =
       let all = all_filter (BatchHolds then updates) p s.batches (here.collection.content s.number s here.low last_then.1) in
       let is : rows_under then (keys_of (filter p s.batches)) ≡ held updates (filter p s.batches) =
-      part_rows_under then (keys_of (filter p s.batches)) (held updates (filter p s.batches)) (rows_held then updates (filter p s.batches) all) in
+      part_rows_under then (keys_of (filter p s.batches)) (held updates (filter p s.batches)) (rows_held then updates
+      (filter p s.batches) all) in
       let a = front_light then n (keys_of (filter p s.batches)) in
       let b = ap weight_of is in
       let c = spine_light updates p s.batches rules.spine in
@@ -179,17 +194,22 @@ module _ (client : ℕ) (start : Stored) (shard : ShardId) (list : List Update) 
       omega arith
 
   -- nor are those that were got with one part more
-  pub got_light : (p : Batch → Bool) (n : ℕ) (k : PartKey) (b : List ℕ) (rows part : List Update) → Hold (GotAs (mine_back then later client)) (take n (keys_of (filter p s.batches))) rows →
-      slice_get (keys_of (filter p s.batches)) n ≡ Some k → GotAs (mine_back then later client) k b → rows_in b ≡ Some part → weight_of (rows ++ part) ≤ 2 ^ 62
+  pub got_light : (p : Batch → Bool) (n : ℕ) (k : PartKey) (b : List ℕ) (rows part : List Update) →
+      Hold (GotAs (mine_back then later client)) (take n (keys_of (filter p s.batches))) rows →
+      slice_get (keys_of (filter p s.batches)) n ≡ Some k → GotAs (mine_back then later client) k b → rows_in b ≡ Some part →
+      weight_of (rows ++ part) ≤ 2 ^ 62
   got_light p n k b rows part held_so at got reads =
       let named : AllByRecursion (Names s) (keys_of (filter p s.batches)) = all_named p s in
       let old : PartRows then (take n (keys_of (filter p s.batches))) rows =
       hold_rows then (GotAs (mine_back then later client)) (take n (keys_of (filter p s.batches))) rows
-      (λ q c among g. got_is q c (each_at (Names s) (keys_of (filter p s.batches)) q named (taken_among (keys_of (filter p s.batches)) n q among)) g) held_so in
-      let name : Names s k = each_at (Names s) (keys_of (filter p s.batches)) k named (index_among (keys_of (filter p s.batches)) n k at) in
+      (λ q c among g. got_is q c (each_at (Names s) (keys_of (filter p s.batches)) q named (taken_among (keys_of
+      (filter p s.batches)) n q among)) g) held_so in
+      let name : Names s k = each_at (Names s) (keys_of (filter p s.batches)) k named (index_among (keys_of
+      (filter p s.batches)) n k at) in
       let blob : rows_of_blob (then.blobs k) ≡ part = ap rows_of_blob (got_is k b name got) ∙ ap rows_or_none reads in
       let is : rows_under then (take (suc n) (keys_of (filter p s.batches))) ≡ rows ++ part =
-      front_more then n (keys_of (filter p s.batches)) k at ∙ ap (λ (us : List Update). us ++ rows_of_blob (then.blobs k)) (part_rows_under then (take n (keys_of (filter p s.batches))) rows old)
+      front_more then n (keys_of (filter p s.batches)) k at ∙ ap (λ (us : List Update). us ++ rows_of_blob (then.blobs k))
+      (part_rows_under then (take n (keys_of (filter p s.batches))) rows old)
       ∙ ap (λ (us : List Update). rows ++ us) blob in
       subst (λ (us : List Update). weight_of us ≤ 2 ^ 62) is (front_weight p (suc n))
     where

@@ -1,5 +1,5 @@
 -- Where the reading of a shard stands: what comes next, and what a reply makes of it.
-use Rattle.std.specs.Prelude.{⊤, ◌≡◌, ℕ, Option, Some, None, IsSomeAnd, if◌then◌else◌, Result, Ok, Err, List, [], ◌∷◌}
+use Rattle.std.specs.Prelude.{⊤, ◌≡◌, ℕ, Option, Some, None, if◌then◌else◌, Result, Ok, Err, List, [], ◌∷◌}
 use Rattle.update_core.specs.declared.updates.Update.{Update}
 use Rattle.store_core.specs.declared.part_keys.PartKey.{PartKey}
 use Rattle.store_core.specs.declared.calls.Call.{Call}
@@ -92,15 +92,23 @@ staged c _ = c
 abbrev pub GoesBy : {Q A : Type 0} → Questions Q A → Course → Q → Sight A → Course → Poll A → Type 0
 GoesBy W c q sight new poll = (poll ≡ sight_poll W c q sight) × (new ≡ staged c sight)
 
-abbrev pub LooksAt : {Q A : Type 0} → Questions Q A → Course → Q → Result (Option ShardState) Damage → Course → Poll A → Type 0
-LooksAt W old q (Ok (Some s)) new poll = GoesBy W (holding old s) q (sight_of W q s old.member) new poll
-LooksAt W old q (Ok None) new poll = ⊥
-LooksAt W old q (Err damage) new poll = (poll ≡ polls.Damaged damage) × (new ≡ old)
+-- what the versions of a Scan come to, by what their newest state does
+abbrev pub ComesTo : {A : Type 0} → Course → (ShardState → Course → Poll A → Type 0) → Result (Option ShardState) Damage →
+    Course → Poll A →
+    Type 0
+ComesTo old does (Ok (Some s)) new poll = does s new poll
+ComesTo old does (Ok None) new poll = ⊥
+ComesTo old does (Err damage) new poll = (poll ≡ polls.Damaged damage) × (new ≡ old)
 
-abbrev pub MovesAfterScan : {Q A : Type 0} → Questions Q A → Course → Q → Reply → Course → Poll A → Type 0
-MovesAfterScan W old q (replies.Versions vs) new poll = LooksAt W old q (newest_after old.loader.shard old.loader.cached vs) new poll
-MovesAfterScan W old q replies.Failed new poll = (poll ≡ polls.Fault) × (new ≡ old)
-MovesAfterScan W old q _ new poll = ⊥
+-- and what the reply to it comes to
+abbrev pub ScansTo : {A : Type 0} → Course → (ShardState → Course → Poll A → Type 0) → Reply → Course → Poll A → Type 0
+ScansTo old does (replies.Versions vs) new poll = ComesTo old does (newest_after old.loader.shard old.loader.cached vs) new poll
+ScansTo old does replies.Failed new poll = (poll ≡ polls.Fault) × (new ≡ old)
+ScansTo old does _ new poll = ⊥
+
+-- the newest state is looked at
+abbrev pub Looks : {Q A : Type 0} → Questions Q A → Course → Q → ShardState → Course → Poll A → Type 0
+Looks W old q s new poll = GoesBy W (holding old s) q (sight_of W q s old.member) new poll
 
 -- the answer from the rows that were got, by the newest state
 abbrev pub rows_by : {Q A : Type 0} → Questions Q A → Option ShardState → Q → List Update → Poll A
@@ -114,7 +122,8 @@ rows_poll W c q rows = rows_by W c.loader.cached q rows
 abbrev pub MovesByFetched : {Q A : Type 0} → Questions Q A → Course → Q → Getting → Fetched → Course → Poll A → Type 0
 MovesByFetched W old q g fetches.More new poll = (poll ≡ polls.More) × (new ≡ record old { getting = g })
 MovesByFetched W old q g fetches.Fault new poll = (poll ≡ polls.Fault) × (new ≡ record old { getting = g })
-MovesByFetched W old q g (fetches.Missing key) new poll = (poll ≡ polls.More) × (new ≡ record old { getting = g; stage = stages.Check key })
+MovesByFetched W old q g (fetches.Missing key) new poll = (poll ≡ polls.More) ×
+    (new ≡ record old { getting = g; stage = stages.Check key })
 MovesByFetched W old q g (fetches.Damaged damage) new poll = (poll ≡ polls.Damaged damage) × (new ≡ record old { getting = g })
 MovesByFetched W old q g fetches.Done new poll = (poll ≡ rows_poll W old q g.rows) × (new ≡ record old { getting = g })
 
@@ -126,18 +135,10 @@ MovesAfterGet W old q reply new poll =
 abbrev pub missing_poll : {Q A : Type 0} → Questions Q A → Course → Q → PartKey → Poll A
 missing_poll W c q key = if is_gone c.member c.loader.cached then expired W c q else polls.Damaged (damages.Missing key)
 
-abbrev pub ChecksAt : {Q A : Type 0} → Questions Q A → Course → Q → PartKey → Result (Option ShardState) Damage → Course → Poll A → Type 0
-ChecksAt W old q key (Ok (Some s)) new poll = (poll ≡ missing_poll W (holding old s) q key) × (new ≡ holding old s)
-ChecksAt W old q key (Ok None) new poll = ⊥
-ChecksAt W old q key (Err damage) new poll = (poll ≡ polls.Damaged damage) × (new ≡ old)
-
-abbrev pub MovesAfterCheck : {Q A : Type 0} → Questions Q A → Course → Q → PartKey → Reply → Course → Poll A → Type 0
-MovesAfterCheck W old q key (replies.Versions vs) new poll = ChecksAt W old q key (newest_after old.loader.shard old.loader.cached vs) new
-    poll
-MovesAfterCheck W old q key replies.Failed new poll = (poll ≡ polls.Fault) × (new ≡ old)
-MovesAfterCheck W old q key _ new poll = ⊥
+abbrev pub Checks : {Q A : Type 0} → Questions Q A → Course → Q → PartKey → ShardState → Course → Poll A → Type 0
+Checks W old q key s new poll = (poll ≡ missing_poll W (holding old s) q key) × (new ≡ holding old s)
 
 abbrev pub MovesByStage : {Q A : Type 0} → Questions Q A → Stage → Course → Q → Reply → Course → Poll A → Type 0
-MovesByStage W stages.Scan old q reply new poll = MovesAfterScan W old q reply new poll
+MovesByStage W stages.Scan old q reply new poll = ScansTo old (Looks W old q) reply new poll
 MovesByStage W stages.Get old q reply new poll = MovesAfterGet W old q reply new poll
-MovesByStage W (stages.Check key) old q reply new poll = MovesAfterCheck W old q key reply new poll
+MovesByStage W (stages.Check key) old q reply new poll = ScansTo old (Checks W old q key) reply new poll

@@ -26,7 +26,8 @@ IsRead (calls.Scan shard from) = ⊤
 IsRead (calls.Get key) = ⊤
 IsRead _ = ⊥
 
--- Since a Scan of the command, at which s was the last version's state and the member its client's, the client has made Scans and Gets
+-- Since a Scan of the command, at which s was the last version's state and the member its client's, the client has made Scans and
+-- Gets
 -- alone.
 pub record SinceScan (kind : Kind) (client : ℕ) (c : Course) (start : Stored) (es : List Entry) (s : ShardState) : Type 0 where
   pub later : List Entry
@@ -45,17 +46,19 @@ pub record SinceGot (kind : Kind) (client : ℕ) (c : Course) (start : Stored) (
   pub since : SinceScan kind client c start es s
   pub quiet : NoScanOf client c.loader.shard since.later
   pub count : c.calls < most → own_count client since.later < c.calls
-  pub got : Hold (GotAs (mine_back (replay_back start (since.scan ∷ since.before)) since.later client)) (take c.getting.place c.getting.keys)
+  pub got : Hold (GotAs (mine_back (replay_back start (since.scan ∷ since.before)) since.later client))
+      (take c.getting.place c.getting.keys)
       c.getting.rows
 
 -- no bytes lay under the key when it was last asked for, since that Scan
-pub record SinceMissing (kind : Kind) (client : ℕ) (c : Course) (start : Stored) (es : List Entry) (key : PartKey) (s : ShardState) : Type 0
+pub record SinceMissing (kind : Kind) (client : ℕ) (c : Course) (start : Stored) (es : List Entry) (key : PartKey)
+    (s : ShardState) : Type 0
   where
-  pub since : SinceScan kind client c start es s
-  pub rest : List Entry
-  pub mid : List Entry
-  pub parted : since.later ≡ rest ++ mid
-  pub missing : (replay_back start (mid ++ (since.scan ∷ since.before))).blobs key ≡ None
+    pub since : SinceScan kind client c start es s
+    pub rest : List Entry
+    pub mid : List Entry
+    pub parted : since.later ≡ rest ++ mid
+    pub missing : (replay_back start (mid ++ (since.scan ∷ since.before))).blobs key ≡ None
 
 -- what is known, by the stage
 abbrev pub FollowsStage : Kind → ℕ → Course → Stored → List Entry → Stage → Type 0
@@ -70,14 +73,17 @@ pub record FollowsAsked (kind : Kind) (client : ℕ) (c : Course) (start : Store
 
 -- ---- what it costs
 
--- The calls and those that remain, but for further failures: before the Scan there were only failed ones; then one for each part that is
+-- The calls and those that remain, but for further failures: before the Scan there were only failed ones; then one for each part
+-- that is
 -- left, and one more Scan.
 abbrev pub ReadCost : ℕ → Course → Stage → List Entry → Type 0
 ReadCost client c stages.Scan es = c.calls ≤ failed_calls client c.calls es
 ReadCost client c stages.Get es = WithinReads c.calls 0 (1 + c.getting.place) (failed_calls client c.calls es)
-ReadCost client c (stages.Check key) es = WithinReads c.calls 1 (read_base (length c.getting.keys)) (failed_calls client c.calls es)
+ReadCost client c (stages.Check key) es = WithinReads c.calls 1 (read_base (length c.getting.keys))
+    (failed_calls client c.calls es)
 
--- A command that has ended: at its Scan but for failed calls that was the only call; else it made one for each part of the state that it
+-- A command that has ended: at its Scan but for failed calls that was the only call; else it made one for each part of the state
+-- that it
 -- read from, and two Scans at most.
 abbrev pub OverStage : ℕ → Course → Stage → List Entry → Type 0
 OverStage client c stages.Scan es = WithinReads c.calls 0 1 (failed_calls client c.calls es)

@@ -43,7 +43,8 @@ own_count client (e ∷ es) = if e.client == client then own_count client es + 1
 abbrev pub NoScanOf : ℕ → ShardId → List Entry → Type 0
 NoScanOf client shard es = AllByRecursion (λ e. e.client ≡ client → ¬ IsAnsweredScan shard (placed e [])) es
 
--- A client's command, whose last answered Scan showed that s is the last version's state, and that the member stands in it. The entries
+-- A client's command, whose last answered Scan showed that s is the last version's state, and that the member stands in it. The
+-- entries
 -- since then are `later`.
 pub record ShownAt (client : ℕ) (shard : ShardId) (member calls : ℕ) (list : List Update) (start : Stored) (later : List Entry)
     (scan : Entry) (before : List Entry) (s : ShardState) : Type 0 where
@@ -63,7 +64,8 @@ since client calls later scan before = places client calls (later ++ (scan ∷ b
 
 -- the rows are those of the bytes under the keys that the client got since that Scan
 abbrev pub GotSince : ℕ → Stored → List Entry → Entry → List Entry → List PartKey → List Update → Type 0
-GotSince client start later scan before keys rows = Hold (GotAs (mine_back (replay_back start (scan ∷ before)) later client)) keys rows
+GotSince client start later scan before keys rows = Hold (GotAs (mine_back (replay_back start
+    (scan ∷ before)) later client)) keys rows
 
 -- the keys are those of some of the state's batches
 pub record SomeParts (s : ShardState) (keys : List PartKey) : Type 0 where

@@ -1,10 +1,12 @@
 -- A machine whose commands each ask a shard a question. Entries go newest first.
-use Rattle.std.specs.Prelude.{⊤, ◌≡◌, ◌≢◌, ℕ, ◌<◌, Option, Some, None, IsSome, IfSome, IsSomeAnd, List}
+use Rattle.std.specs.Prelude.{⊤, ◌≡◌, ◌⊎◌, ℕ, ◌<◌, Option, Some, None, IsSome, IfSome, IsSomeAnd, List}
 use Rattle.update_core.specs.declared.updates.Update.{Update}
+use Rattle.store_core.specs.declared.part_keys.PartKey.{PartKey}
 use Rattle.store_core.specs.declared.shards.ShardId.{ShardId}
 use Rattle.store_core.specs.declared.calls.Call.{Call}
 use Rattle.store_core.specs.declared.calls.Call.TheVariants as calls
 use Rattle.store_core.specs.declared.replies.Reply.{Reply}
+use Rattle.store_core.specs.declared.replies.Reply.TheVariants as replies
 use Rattle.store_core.specs.declared.entries.Entry.{Entry}
 use Rattle.store_core.specs.Stores.{Stored}
 use Rattle.store_core.specs.Newest.{mine_back}
@@ -83,9 +85,7 @@ kept r = record { asked = r.asked; member = r.course.member; shard = r.course.lo
 
 -- a Scan of the shard, or a Get
 abbrev pub ReadsOf : ShardId → Call → Type 0
-ReadsOf shard (calls.Scan at from) = at ≡ shard
-ReadsOf shard (calls.Get key) = ⊤
-ReadsOf shard _ = ⊥
+ReadsOf shard call = ((from : ℕ) × (call ≡ calls.Scan shard from)) ⊎ ((key : PartKey) × (call ≡ calls.Get key))
 
 -- where an answer comes from: a Scan that showed a state that says it, the rows of parts, or a Scan that showed no such member
 pub data CameBy {Q A : Type 0} (W : Questions Q A) (q : Q) (Shown : Type 0) (answer : A) : Type 0 where
@@ -94,17 +94,19 @@ pub data CameBy {Q A : Type 0} (W : Questions Q A) (q : Q) (Shown : Type 0) (ans
   lapsed : (version : ℕ) → answer ≡ W.expired q version → Shown → CameBy W q Shown answer
 
 -- what its call has done, by what the poll comes to: it commits nothing
-abbrev pub DidBy : {Q A : Type 0} → Questions Q A → Q → ShardId → Call → Reply → Poll A → Type 0
-DidBy W q shard call r polls.More = CommitsNone r
-DidBy W q shard call r (polls.Done answer) = CommitsNone r × CameBy W q (IsShown shard call r) answer
-DidBy W q shard call r polls.Spent = ⊥
-DidBy W q shard call r _ = ⊤
+abbrev pub DidBy : {Q A : Type 0} → Questions Q A → Q → Type 0 → Reply → Poll A → Type 0
+DidBy W q Shown r polls.More = CommitsNone r
+DidBy W q Shown r polls.Fault = r ≡ replies.Failed
+DidBy W q Shown r (polls.Damaged damage) = ⊤
+DidBy W q Shown r (polls.Done answer) = CommitsNone r × CameBy W q Shown answer
+DidBy W q Shown r _ = ⊥
 
 pub record Did {Q A : Type 0} (W : Questions Q A) (k : ReadKept Q) (call : Call) (r : Reply) (poll : Poll A) : Type 0 where
   pub reads : ReadsOf k.shard call
-  pub did : IsSomeAnd k.asked (λ q. DidBy W q k.shard call r poll)
+  pub did : IsSomeAnd k.asked (λ q. DidBy W q (IsShown k.shard call r) r poll)
 
-pub record Follows {Q A : Type 0} (W : Questions Q A) (client : ℕ) (r : Reading Q) (start : Stored) (es : List Entry) : Type 0 where
+pub record Follows {Q A : Type 0} (W : Questions Q A) (client : ℕ) (r : Reading Q) (start : Stored)
+    (es : List Entry) : Type 0 where
   pub shown : FollowsLoading r.course.loader (mine_back start es client)
   pub asked : IfSome r.asked (λ q. FollowsAsked W.kind client r.course start es)
 
@@ -131,7 +133,8 @@ words W = record {
   Effect = Did W;
   Follows = Follows W;
   Spares = λ r call. ⊤;
-  Legal = λ client k calls answer start es list. IfSome k.asked (λ q. W.Legal q k.shard k.member start (places client calls es) list answer);
+  Legal = λ client k calls answer start es list. IfSome k.asked (λ q. W.Legal q k.shard k.member start
+      (places client calls es) list answer);
   least = 0;
   CostAt = λ base client r start es list. r.course.calls < most → ReadCost client r.course r.course.stage es;
   CostOver = λ base client old new start es list. new.course.calls < most → OverStage client new.course old.course.stage es;

@@ -4,8 +4,9 @@ ghost use Rattle.store_core.specs.Histories.{IsReplyTo};
 ghost use Rattle.change_core.specs.Changes.{is_gone};
 ghost use Rattle.load_core.specs.Getting as getting;
 ghost use Rattle.load_core.specs.Loading.{IsOf, scan_of};
-ghost use Rattle.read_machine.specs.Courses.{HasNext, LooksAt, MovesAfterCheck, MovesAfterGet, MovesAfterScan, MovesByStage, begun};
-ghost use Rattle.read_machine.specs.Courses.{counted, expired, missing_poll, read_call, rows_poll, look_sight, sight_of, sight_poll, staged, strange};
+ghost use Rattle.read_machine.specs.Courses.{Checks, ComesTo, HasNext, Looks, MovesAfterGet, MovesByStage, ScansTo};
+ghost use Rattle.read_machine.specs.Courses.{begun, counted, expired, look_sight, missing_poll, read_call, rows_poll};
+ghost use Rattle.read_machine.specs.Courses.{sight_of, sight_poll, staged, strange};
 
 use crate::looks::Look;
 use crate::questions::Question;
@@ -81,7 +82,8 @@ impl Course {
         requires getting { getting.IsSound self.old.getting }
         requires next { HasNext self.old self.old.stage }
         requires row { IfSome (read_call self.old self.old.stage) (λ call. IsReplyTo call reply) }
-        ensures moves { IfOk result (λ poll. MovesByStage Q.question self.old.stage (counted self.old) question.now reply self.new poll) }
+        ensures moves { IfOk result (λ poll. MovesByStage Q.question self.old.stage (counted self.old) question.now reply
+            self.new poll) }
         ensures sound { getting.IsSound self.new.getting }
         ensures memory { OnErr result (self.new ≡ counted self.old) }
     {
@@ -104,7 +106,7 @@ impl Course {
         requires known { IsSome self.old.loader.cached }
         requires getting { getting.IsSound self.old.getting }
         requires row { IsReplyTo (scan_of self.old.loader) reply }
-        ensures moves { IfOk result (λ poll. MovesAfterScan Q.question self.old question.now reply self.new poll) }
+        ensures moves { IfOk result (λ poll. ScansTo self.old (Looks Q.question self.old question.now) reply self.new poll) }
         ensures sound { getting.IsSound self.new.getting }
         ensures memory { OnErr result (self.new ≡ self.old) }
     {
@@ -125,7 +127,7 @@ impl Course {
     ) -> Result<Poll<Q::Answer>, AllocError>
         requires shard { IsOf self.old.loader.shard state }
         requires getting { getting.IsSound self.old.getting }
-        ensures moves { IfOk result (λ poll. LooksAt Q.question self.old question.now (Ok (Some state)) self.new poll) }
+        ensures moves { IfOk result (λ poll. Looks Q.question self.old question.now state self.new poll) }
         ensures sound { getting.IsSound self.new.getting }
         ensures memory { OnErr result (self.new ≡ self.old) }
     {
@@ -142,7 +144,8 @@ impl Course {
     ) -> Result<Poll<Q::Answer>, AllocError>
         requires known { IsSome self.old.loader.cached }
         requires getting { getting.IsSound self.old.getting }
-        ensures moves { IfOk result (λ poll. LooksAt Q.question self.old question.now (Ok self.old.loader.cached) self.new poll) }
+        ensures moves { IfOk result (λ poll. ComesTo self.old (Looks Q.question self.old question.now) (Ok self.old.loader.cached)
+            self.new poll) }
         ensures sound { getting.IsSound self.new.getting }
         ensures memory { OnErr result (self.new ≡ self.old) }
     {
@@ -151,8 +154,13 @@ impl Course {
     }
 
     // What the newest state shows, where nothing newer came.
-    fn sight_again<Q: Question>(&self, alloc: Global, question: &Q) -> Result<Sight<Q::Answer>, AllocError>
-        ensures { IfOk result (λ sight. IfSome self.now.loader.cached (λ s. sight ≡ sight_of Q.question question.now s self.now.member)) }
+    fn sight_again<Q: Question>(
+        &self,
+        alloc: Global,
+        question: &Q,
+    ) -> Result<Sight<Q::Answer>, AllocError>
+        ensures { IfOk result (λ sight. IfSome self.now.loader.cached
+            (λ s. sight ≡ sight_of Q.question question.now s self.now.member)) }
     {
         match self.loader.state() {
             Some(state) => sight_of(alloc, question, state, self.member),
@@ -161,7 +169,12 @@ impl Course {
     }
 
     // What the newest state comes to, by what it shows.
-    fn go_by<Q: Question>(&mut self, alloc: Global, question: &Q, sight: Sight<Q::Answer>) -> Poll<Q::Answer>
+    fn go_by<Q: Question>(
+        &mut self,
+        alloc: Global,
+        question: &Q,
+        sight: Sight<Q::Answer>,
+    ) -> Poll<Q::Answer>
         requires getting { getting.IsSound self.old.getting }
         ensures poll { result ≡ sight_poll Q.question self.old question.now sight }
         ensures staged { self.new ≡ staged self.old sight }
@@ -237,7 +250,7 @@ impl Course {
         requires known { IsSome self.old.loader.cached }
         requires getting { getting.IsSound self.old.getting }
         requires row { IsReplyTo (scan_of self.old.loader) reply }
-        ensures moves { IfOk result (λ poll. MovesAfterCheck Q.question self.old question.now key reply self.new poll) }
+        ensures moves { IfOk result (λ poll. ScansTo self.old (Checks Q.question self.old question.now key) reply self.new poll) }
         ensures sound { getting.IsSound self.new.getting }
         ensures memory { OnErr result (self.new ≡ self.old) }
     {
@@ -313,8 +326,13 @@ fn sight_of<Q: Question>(
 }
 
 // The same of a member that asks: no parts are answered from no rows.
-fn look_sight<Q: Question>(alloc: Global, question: &Q, state: &State) -> Result<Sight<Q::Answer>, AllocError>
-    ensures { IfOk result (λ sight. sight ≡ look_sight Q.question question.now state.now (Q.question.look question.now state.now)) }
+fn look_sight<Q: Question>(
+    alloc: Global,
+    question: &Q,
+    state: &State,
+) -> Result<Sight<Q::Answer>, AllocError>
+    ensures { IfOk result (λ sight. sight ≡ look_sight Q.question question.now state.now
+        (Q.question.look question.now state.now)) }
 {
     match question.look(alloc, state)? {
         Look::Answer(answer) => Ok(Sight::Answer(answer)),

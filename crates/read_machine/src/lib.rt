@@ -1,4 +1,4 @@
-//! A machine whose commands each read a shard at a question's: a scan, the gets of parts, and a scan that tells why one is missing.
+//! A machine whose commands each ask a shard a question: a scan, the gets of parts, and a scan that tells why one is missing.
 #![tactic(auto)]
 
 mod courses;

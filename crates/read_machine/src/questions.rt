@@ -25,7 +25,12 @@ pub trait Question: Drop {
         ensures { IfOk result (λ look. look ≡ question.look self.now state.now) };
 
     /// The answer from the rows of the parts that the state named. It fails only for want of memory.
-    fn answer(&self, alloc: Global, state: &State, rows: &UpdateList) -> Result<Self::Answer, AllocError>
+    fn answer(
+        &self,
+        alloc: Global,
+        state: &State,
+        rows: &UpdateList,
+    ) -> Result<Self::Answer, AllocError>
         requires { weight_of rows.now ≤ 2 ^ 62 }
         ensures { IfOk result (λ answer. answer ≡ question.answer self.now state.now rows.now) };
 

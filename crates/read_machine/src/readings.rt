@@ -23,7 +23,10 @@ pub struct Reading<Q> {
 impl<Q: Question> Reading<Q> {
     /// No command is open, and nothing is known of the shard. It takes no memory.
     pub fn new(alloc: Global, shard: ShardId) -> Reading<Q>
-        ensures idle { result ≡ record { course = courses.begun (getting.begun []) (record { shard = shard; cached = None }) 0; asked = None } }
+        ensures idle { result ≡ record {
+          course = courses.begun (getting.begun []) (record { shard = shard; cached = None }) 0;
+          asked = None;
+        } }
         ensures sound { getting.IsSound result.course.getting }
     {
         Reading {

@@ -27,7 +27,7 @@ three = numbered 0 (version0 ∷ version1 ∷ version2 ∷ [])
 abbrev seven : List Version
 seven = numbered 0 (version0 ∷ version1 ∷ version2 ∷ version3 ∷ version4 ∷ version5 ∷ version6 ∷ [])
 
-abbrev nine : List Version
+abbrev pub nine : List Version
 nine = numbered 0 (version0 ∷ version1 ∷ version2 ∷ version3 ∷ version4 ∷ version5 ∷ version6 ∷ version7 ∷ version8 ∷ [])
 
 taken_in_three : (top : ℕ) (k : PartKey) → TakenUpTo the_shard top three k → ⊥
@@ -66,7 +66,7 @@ taken_in_seven top k h = elim h [
   ]
 ]
 
-taken_in_nine : (top : ℕ) (k : PartKey) → TakenUpTo the_shard top nine k → (6 ≤ top) × Takes step6 k
+pub taken_in_nine : (top : ℕ) (k : PartKey) → TakenUpTo the_shard top nine k → (6 ≤ top) × Takes step6 k
 taken_in_nine top k h = elim h [
   | inl a ↦ absurd (takes_of _ state0 Init k reads0 a.1)
   | inr rest0 ↦ elim rest0 [
@@ -109,7 +109,7 @@ floor_of_three s h = ap floor (last_is _ s state2 h.0 step2 reads2 h.1)
 floor_of_seven : (s : ShardState) → NewestIs the_shard seven s → floor s ≡ 3
 floor_of_seven s h = ap floor (last_is _ s state6 h.0 step6 reads6 h.1)
 
-floor_of_nine : (s : ShardState) → NewestIs the_shard nine s → floor s ≡ 8
+pub floor_of_nine : (s : ShardState) → NewestIs the_shard nine s → floor s ≡ 8
 floor_of_nine s h = ap floor (last_is _ s state8 h.0 step8 reads8 h.1)
 
 above : (s : ShardState) (n m : ℕ) → floor s ≡ n → n < m → m ≤ floor s → ⊥

@@ -4,6 +4,8 @@ use Rattle.std.specs.List.{list_any}
 use Rattle.state_core.specs.Steps.{is_out}
 use Rattle.std.specs.Prelude.{reverse}
 use Rattle.store_core.specs.declared.part_keys.PartKey.{PartKey}
+use Rattle.store_core.specs.declared.versions.Version.{Version}
+use Rattle.store_core.specs.declared.replies.Reply.TheVariants as replies
 use Rattle.store_core.specs.declared.calls.Call.TheVariants.{Cas}
 use Rattle.store_core.specs.declared.outcomes.Outcome.TheVariants.{FailedTook}
 use Rattle.store_core.specs.declared.entries.Entry.{Entry}
@@ -11,7 +13,6 @@ use Rattle.store_core.specs.Stores.{empty_store}
 use Rattle.store_core.specs.Histories.{entry_of, store_after}
 use Rattle.store_core.specs.Newest.{replay_back}
 use Rattle.spine_core.specs.Settled.{due_place, weights_of}
-use Rattle.state_core.specs.declared.transitions.Transition.TheVariants.{Init}
 use Rattle.state_core.specs.States.{ShardState}
 use Rattle.history_core.specs.declared.asked.Asked.TheVariants.{Collect}
 use Rattle.history_core.specs.declared.merge_answers.MergeAnswer.TheVariants.{Opened, Merged, NothingDue, Renewed, Superseded}
@@ -21,17 +22,17 @@ use Rattle.history_core.specs.Costs.{merge_parts}
 use Rattle.history_core.specs.Histories.{version_at}
 use Rattle.history_core.specs.Laws.{LastIs}
 use Rattle.history_core.specs.Placing.{Placed}
-use Rattle.history_core.specs.Upkeep.{LegalMerge, LegalCollect, LegalExpire, MergedAs, TriesMerge, HasKeeper}
+use Rattle.history_core.specs.Upkeep.{FloorIs, LegalMerge, LegalCollect, LegalExpire, MergedAs, TriesMerge, HasKeeper}
 use Rattle.worked_histories.specs.Worked.{the_shard, key, early_batch, late_batch, merged_batch, version2, version6, version8}
-use Rattle.worked_histories.specs.Worked.{state0, state1, state2, state3, state4, state5, state6, state7, state8}
-use Rattle.worked_histories.specs.Worked.{step1, step2, step3, step4, step5, step6, step7, step8}
+use Rattle.worked_histories.specs.Worked.{state2, state5, state6, state8}
+use Rattle.worked_histories.specs.Worked.{step5, step6, step8}
 use Rattle.worked_histories.specs.WorkedTrail.{worked, first_calls}
 use Rattle.worked_histories.specs.WorkedUpkeep.{the_open, the_merge, the_renewal, the_collection, with_failure, the_failed_merge}
 use Rattle.worked_histories.specs.WorkedUpkeep.{empty_scan, scan_at_end, the_expiry, command_by, MergeWithin, CollectWithin}
 use Rattle.history_core.proofs.StateFacts.{last_one}
+use Rattle.worked_histories.proofs.WorkedBrokenScans.{floor_of_nine, nine, taken_in_nine}
 use Rattle.worked_histories.proofs.WorkedCollection.{only_eight}
-use Rattle.worked_histories.proofs.WorkedFacts.{takes_of}
-use Rattle.worked_histories.proofs.WorkedVersions.{reads0, reads1, reads2, reads3, reads4, reads5, reads6, reads7, reads8}
+use Rattle.worked_histories.proofs.WorkedVersions.{reads2, reads5, reads6, reads8}
 
 -- ---- the compactor
 
@@ -166,34 +167,7 @@ collection_answered = (
               refl,
               (state8, (step8, reads8), refl),
               record {
-                keys = λ k h. elim h [
-                  | inl t ↦ absurd (takes_of _ state0 Init k reads0 t.1)
-                  | inr h1 ↦ elim h1 [
-                    | inl t ↦ absurd (takes_of _ state1 step1 k reads1 t.1)
-                    | inr h2 ↦ elim h2 [
-                      | inl t ↦ absurd (takes_of _ state2 step2 k reads2 t.1)
-                      | inr h3 ↦ elim h3 [
-                        | inl t ↦ absurd (takes_of _ state3 step3 k reads3 t.1)
-                        | inr h4 ↦ elim h4 [
-                          | inl t ↦ absurd (takes_of _ state4 step4 k reads4 t.1)
-                          | inr h5 ↦ elim h5 [
-                            | inl t ↦ absurd (takes_of _ state5 step5 k reads5 t.1)
-                            | inr h6 ↦ elim h6 [
-                              | inl t ↦ taken_gone k (takes_of _ state6 step6 k reads6 t.1)
-                              | inr h7 ↦ elim h7 [
-                                | inl t ↦ absurd (takes_of _ state7 step7 k reads7 t.1)
-                                | inr h8 ↦ elim h8 [
-                                  | inl t ↦ absurd (takes_of _ state8 step8 k reads8 t.1)
-                                  | inr none ↦ absurd none
-                                ]
-                              ]
-                            ]
-                          ]
-                        ]
-                      ]
-                    ]
-                  ]
-                ];
+                keys = λ k h. taken_gone k (taken_in_nine 8 k h).1;
                 versions = below_gone;
               },
             ),
@@ -205,8 +179,20 @@ collection_answered = (
   refl,
 )
 
-pub collection_only : (at deleted : ℕ) → LegalCollect worked the_collection (Collected at deleted) → deleted ≡ 2
-collection_only at deleted h = h.1
+-- the floor is that of the last version
+scanned_eight : (at : ℕ) (vs : List Version) → nine ≡ vs → FloorIs the_shard vs at → at ≡ 8
+scanned_eight at vs same h =
+    let (s, newest, is) = subst (λ (us : List Version). FloorIs the_shard us at) (sym same) h in
+    is ∙ floor_of_nine s newest
+
+pub collection_only : (at deleted : ℕ) → LegalCollect worked the_collection (Collected at deleted) → (at ≡ 8) × (deleted ≡ 2)
+collection_only at deleted (inl (scan, h), count) = absurd (let e = scan.0.1 in cc)
+collection_only at deleted (inr (n1, inl (scan, h)), count) = absurd (let e = scan.0.1 in cc)
+collection_only at deleted (inr (n1, inr (n2, inl (scan, h))), count) = absurd (let e = scan.0.1 in cc)
+collection_only at deleted (inr (n1, inr (n2, inr (n3, inl (scan, (call, (vs, answer, floor_is, cleared)))))), count) =
+    let same : replies.Versions nine ≡ replies.Versions vs = answer in
+    (scanned_eight at vs (let is : nine ≡ vs = cc in is) floor_is, count)
+collection_only at deleted (inr (n1, inr (n2, inr (n3, inr (n4, none)))), count) = absurd none
 
 pub collection_cost : CollectWithin worked the_collection 2
 collection_cost = omega arith

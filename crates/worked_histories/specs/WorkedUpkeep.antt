@@ -23,7 +23,8 @@ command_by client member token asked calls = record {
   calls = calls;
 }
 
--- the compactor's open, by a Scan and a Cas, its merge, by a Scan, two Gets, a Set and a Cas, and its renewal, by a Scan and a Cas
+-- the compactor's open, by a Scan and a Cas, its merge, by a Scan, two Gets, a Set and a Cas, and its renewal, by a Scan and
+-- a Cas
 abbrev pub the_open : Command
 the_open = command_by 1 None 0 (OpenCompactor the_shard 0 100) 2
 

@@ -2,7 +2,8 @@
 // contract of a function that does nothing.
 ghost use Rattle.std.specs.Prelude.{◌≡◌, ℕ, None};
 ghost use Rattle.history_core.specs.declared.asked.Asked.TheVariants.{Collect};
-ghost use Rattle.history_core.specs.declared.merge_answers.MergeAnswer.TheVariants.{Opened, Merged, NothingDue, Renewed, Superseded};
+ghost use Rattle.history_core.specs.declared.merge_answers.MergeAnswer.TheVariants.{Opened, Merged, NothingDue, Renewed};
+ghost use Rattle.history_core.specs.declared.merge_answers.MergeAnswer.TheVariants.{Superseded};
 ghost use Rattle.history_core.specs.declared.collect_answers.CollectAnswer.TheVariants.{Collected};
 ghost use Rattle.history_core.specs.declared.expire_answers.ExpireAnswer.TheVariants.{NoneDue};
 ghost use Rattle.history_core.specs.Costs.{merge_parts};
@@ -30,11 +31,12 @@ pub fn failed_merge_is_answered()
     ensures cost { MergeWithin with_failure the_failed_merge (merge_parts early_batch late_batch) 1 }
 {}
 
-/// The collection is answered with the floor 8 and two Deletes, and with no other count. It makes no more calls than it may. On an
-/// empty store it is answered with the floor 0 and no Delete.
+/// The collection is answered with the floor 8 and two Deletes, and with no other answer. It makes no more calls than it may. On
+/// an empty store it is answered with the floor 0 and no Delete.
 pub fn collection_is_answered()
     ensures collected { LegalCollect worked the_collection (Collected 8 2) }
-    ensures no_other { (at deleted : ℕ) → LegalCollect worked the_collection (Collected at deleted) → deleted ≡ 2 }
+    ensures no_other { (at deleted : ℕ) → LegalCollect worked the_collection (Collected at deleted) →
+        (at ≡ 8) × (deleted ≡ 2) }
     ensures cost { CollectWithin worked the_collection 2 }
     ensures empty { LegalCollect empty_scan (command_by 3 None 0 Collect 1) (Collected 0 0) }
 {}

@@ -6,4 +6,5 @@ use Rattle.read_client.proofs.Machining.{keeps, not_open}
 use Rattle.read_client.proofs.laws.follows_past_others_machines.Goals as goal
 
 pub returns : goal.returns
-returns c client front now call reply r closed = spared_where Reader ReadAnswer machine keeps client front now call reply r (not_open r.asked closed) tt
+returns c client front now call reply r closed = spared_where Reader ReadAnswer machine keeps client front now call reply r
+    (not_open r.asked closed) tt

@@ -4,4 +4,5 @@ use Rattle.read_client.proofs.Begun.{read_follows}
 use Rattle.read_client.proofs.readers.Reader.begin_listen.Goals as goal
 
 pub returns-clause-follows : goal.returns-clause-follows
-returns-clause-follows c = read_follows c.args.self.now (asks.Listen c.args.as_of) (Some c.after.result) c.in_ok-member.member c.in_ok-member.ensures.1 c.begin_read.new.self c.begin_read.ensures
+returns-clause-follows c = read_follows c.args.self.now (asks.Listen c.args.as_of)
+    (Some c.after.result) c.in_ok-member.member c.in_ok-member.ensures.1 c.begin_read.new.self c.begin_read.ensures
