@@ -23,7 +23,7 @@ use Rattle.load_core.specs.declared.settings.Setting.{Setting}
 use Rattle.load_core.specs.declared.tryings.Trying.{Trying}
 use Rattle.load_core.specs.Trying as trying
 use Rattle.load_core.specs.PartsFollowing.{IsSettable, IsStoredSoFar, SetsAs}
-use Rattle.load_core.specs.Runs.{AllCarry, CommitsAfter, NoneCommits, OnlyCarries}
+use Rattle.load_core.specs.Runs.{AllCarry, OnlyCarries}
 use Rattle.token_machine.specs.declared.storings.Storing.{Storing}
 use Rattle.token_machine.specs.Following.{CommitsLast, FollowsStoring, IsAfter, IsLastCas, IsSetUnder, UsesToken}
 use Rattle.token_machine.specs.Storings.{Prepares}
@@ -69,11 +69,10 @@ pub storing_begun : (client member token : ℕ) (s : Storing) (start : Stored) (
     s.setting.place ≡ 0 → (¬ Among (λ o. UsesToken s.trying.loader.shard member token o.entry.call) (mine_back start es client)) →
     (s.trying.calls < most → AllCarry s.trying client es) →
     (s.trying.calls < most → AllByRecursion (λ p. IsAfter p.entry.call) (places client s.trying.calls es)) →
-    (s.trying.calls < most → NoneCommits s.trying client start es) →
     (s.trying.calls < most → AllByRecursion (CommitsLast start s.trying.loader.shard s.trying.next s.trying.tried)
     (places client s.trying.calls es)) →
     FollowsStoring client member token s start es
-storing_begun client member token s start es owned keys unset unused carry after none last = record {
+storing_begun client member token s start es owned keys unset unused carry after last = record {
   stored = subst (λ (n : ℕ). AllByRecursion (λ p. StoredAs own p.0 p.1) (take n (zip s.setting.keys s.setting.parts)))
       (sym unset) tt;
   settable = λ left. record {
@@ -86,7 +85,6 @@ storing_begun client member token s start es owned keys unset unused carry after
       IsCasUnder s.trying.loader.shard member token o.entry.call) s.trying.calls own fresh;
   carry = carry;
   after = after;
-  none = none;
   last = last;
   unspent = λ fine. unused_unspent start s.trying.loader.shard client member token es fresh;
 }
@@ -136,7 +134,6 @@ storing_prepared client member token old new start es prepares h =
       fresh = h.fresh;
       carry = h.carry;
       after = h.after;
-      none = h.none;
       last = λ lt. last_on start old.trying.loader.shard old.trying.next new.trying.next old.trying.tried old.trying.tried
           (λ n is. prepared_on old new prepares n is) (places client old.trying.calls es) (h.last lt);
       unspent = h.unspent;
@@ -157,8 +154,6 @@ storing_past client member token s start others es of h = record {
       OnlyCarries s.trying.loader.shard s.trying.step p.entry.call) ps) (sym place)
       (h.carry lt);
   after = λ lt. subst (λ (ps : List Placed). AllByRecursion (λ p. IsAfter p.entry.call) ps) (sym place) (h.after lt);
-  none = λ lt fine. subst (λ (ps : List Placed). ¬ Among (CommitsAfter start s.trying.loader.shard) ps) (sym place)
-      (h.none lt fine);
   last = λ lt. subst (λ (ps : List Placed). AllByRecursion
       (CommitsLast start s.trying.loader.shard s.trying.next s.trying.tried) ps) (sym place)
       (h.last lt);

@@ -33,12 +33,12 @@ use Rattle.load_core.specs.declared.tryings.Trying.{Trying}
 use Rattle.load_core.specs.Following.{FollowsTrying}
 use Rattle.load_core.specs.Loading.{scan_of}
 use Rattle.load_core.specs.PartsFollowing.{IsSettable, IsStoredSoFar, SetsAs}
-use Rattle.load_core.specs.Runs.{CommitsAfter, IsNotIn, NoneCommits, OnlyCarries}
+use Rattle.load_core.specs.Runs.{IsNotIn, OnlyCarries}
 use Rattle.load_core.specs.Setting as setting
 use Rattle.load_core.specs.Trying as trying
 use Rattle.load_core.proofs.Following.{shows_on, with_newest}
 use Rattle.load_core.proofs.Outcomes.{follows_called, follows_gained, scan_call}
-use Rattle.load_core.proofs.Runs.{Same, moves_same, next_calls, none_commits_on}
+use Rattle.load_core.proofs.Runs.{Same, moves_same, next_calls}
 use Rattle.load_core.proofs.SettingFollows.{next_is, still_settable, still_stored}
 use Rattle.token_machine.specs.declared.storings.Storing.{Storing}
 use Rattle.token_machine.specs.Following.{CommitsLast, Draws, FollowsStoring, IsAfter, UsesToken}
@@ -186,13 +186,11 @@ module _ (client : ℕ) (s : Storing) (start : Stored) (e : Entry) (others es : 
         (placed e (others ++ es) ∷ places client s.trying.calls es)
 
     storing_on : (new : Storing) → Same s.trying new.trying →
-        (new.trying.calls < most → NoneCommits s.trying client start es → NoneCommits new.trying client start
-        (e ∷ (others ++ es))) →
         (new.trying.failed ≡ false → is_commit_under (replay_back start
         (others ++ es)) s.trying.loader.shard m token e e.call ≡ false) →
         IsStoredSoFar (This ∷ Mine) new.setting →
         (setting.IsOpen new.setting → IsSettable (This ∷ Mine) s.trying.loader.shard m token new.setting) → LastOn new → On new
-    storing_on new same none quiet stored settable last = record {
+    storing_on new same quiet stored settable last = record {
       stored = subst (λ (os : List Answered). IsStoredSoFar os new.setting) (sym gained) stored;
       settable = λ left. subst (λ (os : List Answered). IsSettable os new.trying.loader.shard m token new.setting) (sym gained)
           (subst (λ (d : ShardId). IsSettable (This ∷ Mine) d m token new.setting) (sym same.shard) (settable left));
@@ -214,7 +212,6 @@ module _ (client : ℕ) (s : Storing) (start : Stored) (e : Entry) (others es : 
           (carries s e.call sound call_is, h.carry (before lt))));
       after = λ lt. subst (λ (ps : List Placed). AllByRecursion (λ p. IsAfter p.entry.call) ps) (sym (entries lt))
           (after_call, h.after (before lt));
-      none = λ lt. none lt (h.none (before lt));
       last = λ lt. subst (λ (ps : List Placed). AllByRecursion
           (CommitsLast start new.trying.loader.shard new.trying.next new.trying.tried) ps)
           (sym (entries lt)) (subst (λ (d : ShardId). AllByRecursion
@@ -236,17 +233,6 @@ module _ (client : ℕ) (s : Storing) (start : Stored) (e : Entry) (others es : 
         entries : new.trying.calls < most → places client new.trying.calls (e ∷ (others ++ es)) ≡ More
         entries lt = ap (λ (n : ℕ). places client n (e ∷ (others ++ es))) (one lt) ∙
             places_gained client s.trying.calls e others es own_entry of
-
-    -- none commits where this entry doesn't
-    none_on : (new : Trying) → Same s.trying new → (¬ CommitsAfter start s.trying.loader.shard (placed e (others ++ es))) →
-        new.calls < most →
-        NoneCommits s.trying client start es → NoneCommits new client start (e ∷ (others ++ es))
-    none_on new same quiet lt none good =
-        subst (λ (d : ShardId). ¬ Among (CommitsAfter start d) (places client new.calls (e ∷ (others ++ es)))) (sym same.shard)
-        (subst (λ (ps : List Placed). ¬ Among (CommitsAfter start s.trying.loader.shard) ps)
-        (sym (ap (λ (n : ℕ). places client n (e ∷ (others ++ es))) (next_calls s.trying.calls new.calls same.calls lt) ∙
-        places_gained client s.trying.calls e others es own_entry of))
-        (λ k. elim k [ inl here ↦ quiet here | inr there ↦ none (same.failed good) there ]))
 
     -- parts that are settable stay so after a Scan, which comes where one is left
     settable_on : sets s ≡ false → setting.IsOpen s.setting → IsSettable (This ∷ Mine) s.trying.loader.shard m token s.setting
@@ -293,8 +279,6 @@ module _ (client : ℕ) (s : Storing) (start : Stored) (e : Entry) (others es : 
             let at = next_is s.setting e.call set_is in
             let after : Storing = record { trying = counted s.trying; setting = p } in
             storing_on after (record { shard = refl; step = refl; calls = refl; failed = λ z. z })
-            (none_on (counted s.trying) (record { shard = refl; step = refl; calls = refl; failed = λ z. z })
-            (λ c. let bad : calls.Set at.key at.bytes ≡ calls.Cas s.trying.loader.shard c.0.expected c.0.bytes = sym at.call_is ∙ c.0.call_is in cc))
             (λ good. set_none (replay_back start (others ++ es)) s.trying.loader.shard m token e at.key at.bytes at.call_is)
             (still_stored Mine s.setting p This progress h.stored set_is m_is)
             (λ still. still_settable Mine s.trying.loader.shard m token s.setting p This progress
@@ -304,7 +288,6 @@ module _ (client : ℕ) (s : Storing) (start : Stored) (e : Entry) (others es : 
             (let call = call_false s e.call q call_is in
             let after : Storing = record { trying = t; setting = s.setting } in
             storing_on after (moves_same s.trying t This.reply tried m_is)
-            (λ lt none. none_commits_on s.trying t start e others es sound.trying call client tried own_entry of out m_is lt none)
             (λ good. tried_none (replay_back start (others ++ es)) m token e s.trying t tried call out m_is good)
             (stored_on (setting.set_so_far s.setting) h.stored) (settable_on q) (subst LastOn n last))
 
@@ -314,9 +297,6 @@ module _ (client : ℕ) (s : Storing) (start : Stored) (e : Entry) (others es : 
         let scan = scans_call s e.call idle call_is in
         let same : Same s.trying (trying.called s.trying) = record { shard = refl; step = refl; calls = refl; failed = λ z. z } in
         storing_on (called s) same
-        (none_on (trying.called s.trying) same
-        (λ c. let bad : scan_of s.trying.loader ≡ calls.Cas s.trying.loader.shard c.0.expected c.0.bytes = sym scan ∙
-        c.0.call_is in cc))
         (λ good. scan_none (replay_back start (others ++ es)) m token e s.trying (scan ∙ sym (scan_call s.trying idle)) idle)
         (stored_on (setting.set_so_far s.setting) h.stored) (settable_on (scans_first s.trying.next s.setting idle))
         (λ lt. (

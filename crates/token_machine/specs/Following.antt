@@ -20,7 +20,7 @@ use Rattle.history_core.specs.Spending.{own_commits}
 use Rattle.load_core.specs.declared.nexts.Next.{Next}
 use Rattle.load_core.specs.declared.nexts.Next.TheVariants as nexts
 use Rattle.load_core.specs.PartsFollowing.{IsSettable, IsStoredSoFar}
-use Rattle.load_core.specs.Runs.{AllCarry, NoneCommits}
+use Rattle.load_core.specs.Runs.{AllCarry}
 use Rattle.load_core.specs.Setting as setting
 use Rattle.token_machine.specs.declared.storings.Storing.{Storing}
 
@@ -58,7 +58,7 @@ CommitsLast start shard next tried p = (c : Commits start shard p) → IsLastCas
 
 -- Parts and a transition under a token: the parts were stored as far as they are set; until all are, no Cas was made under the token.
 -- The newest `calls` entries of the client are the command's: each Cas among them carries the transition and comes after a version,
--- none committed it unless one failed, and no entry before them has a Cas under the token.
+-- and no entry before them has a Cas under the token.
 pub record FollowsStoring (client member token : ℕ) (s : Storing) (start : Stored) (es : List Entry) : Type 0 where
   pub stored : IsStoredSoFar (mine_back start es client) s.setting
   pub settable : setting.IsOpen s.setting → IsSettable (mine_back start es client) s.trying.loader.shard member token s.setting
@@ -66,7 +66,6 @@ pub record FollowsStoring (client member token : ℕ) (s : Storing) (start : Sto
       ¬ Among (λ o. IsCasUnder s.trying.loader.shard member token o.entry.call) (drop s.trying.calls (mine_back start es client))
   pub carry : s.trying.calls < most → AllCarry s.trying client es
   pub after : s.trying.calls < most → AllByRecursion (λ p. IsAfter p.entry.call) (places client s.trying.calls es)
-  pub none : s.trying.calls < most → NoneCommits s.trying client start es
   -- only its last Cas can have committed, before the Scan that then comes
   pub last : s.trying.calls < most →
       AllByRecursion (CommitsLast start s.trying.loader.shard s.trying.next s.trying.tried) (places client s.trying.calls es)

@@ -23,7 +23,7 @@ ghost use Rattle.load_core.specs.declared.tries.Tried.{Tried};
 ghost use Rattle.load_core.specs.Costing.{CostAfter, CostEnded, CostKept, IsPrepared};
 ghost use Rattle.load_core.specs.Following.{FollowsTrying};
 ghost use Rattle.load_core.specs.PartsFollowing.{IsSettable};
-ghost use Rattle.load_core.specs.Runs.{AllCarry, IsNotIn, NoneCommits};
+ghost use Rattle.load_core.specs.Runs.{AllCarry, IsNotIn};
 ghost use Rattle.load_core.specs.Setting as setting;
 ghost use Rattle.token_machine.specs.declared.storings.Storing.{Storing};
 ghost use Rattle.token_machine.specs.Following.{CommitsLast, FollowsStoring, IsAfter, UsesToken};
@@ -65,7 +65,6 @@ pub fn storings_follow()
         → (¬ Among (λ o. UsesToken s.trying.loader.shard member token o.entry.call) (mine_back start es client))
         → (s.trying.calls < most → AllCarry s.trying client es)
         → (s.trying.calls < most → AllByRecursion (λ p. IsAfter p.entry.call) (places client s.trying.calls es))
-        → (s.trying.calls < most → NoneCommits s.trying client start es)
         → (s.trying.calls < most → AllByRecursion (CommitsLast start s.trying.loader.shard s.trying.next s.trying.tried) (places client s.trying.calls es))
         → FollowsStoring client member token s start es }
     ensures moved { (kind : Kind) (member token : ℕ) (s new : Storing) (client : ℕ) (list : List Update) (start : Stored) (e : Entry) (others es : List Entry)
