@@ -19,7 +19,7 @@ use Rattle.history_core.specs.Stands.{StandsFor}
 use Rattle.load_core.specs.Trying as trying
 use Rattle.change_core.specs.Changes.{IsChange, IsOfMember}
 use Rattle.change_core.specs.Legality.{ChangesAt}
-use Rattle.read_machine.proofs.Legality.{some_is}
+use Rattle.read_machine.proofs.Parts.{some_is}
 use Rattle.read_client.specs.declared.questions.Question.TheVariants as questions
 use Rattle.read_client.specs.declared.readers.Reader.{Reader}
 use Rattle.read_client.specs.Asking.{question_of, step_question}

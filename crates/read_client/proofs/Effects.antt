@@ -27,7 +27,7 @@ use Rattle.change_core.specs.Legality.{ChangeEffect}
 use Rattle.change_core.proofs.Coming.{change_effect}
 use Rattle.change_core.proofs.Forms.{committed_as}
 use Rattle.read_machine.specs.Readings as readings
-use Rattle.read_machine.proofs.Keeping.{of_reads}
+use Rattle.read_machine.proofs.Replied.{of_reads}
 use Rattle.read_client.specs.declared.questions.Question.{Question}
 use Rattle.read_client.specs.declared.readers.Reader.{Reader}
 use Rattle.read_client.specs.Asking.{asking}

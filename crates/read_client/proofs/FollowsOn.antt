@@ -14,7 +14,6 @@ use Rattle.store_core.specs.Newest.{mine_back, replay_back}
 use Rattle.state_core.specs.declared.kinds.Kind.TheVariants.{Reader as AsReader}
 use Rattle.state_core.specs.declared.transitions.Transition.{Transition}
 use Rattle.state_core.specs.declared.transitions.Transition.TheVariants.{Advance, Join, Leave, Renew}
-use Rattle.state_core.specs.declared.refusals.Refusal.{Refusal}
 use Rattle.state_core.specs.Steps.{Applies, acts_for}
 use Rattle.state_core.specs.States.{ShardState}
 use Rattle.state_core.specs.VersionReading.{version_in}
@@ -40,7 +39,6 @@ use Rattle.load_core.proofs.Following.{shows_on, with_newest}
 use Rattle.load_core.proofs.Outcomes.{committed_here, follows_gained, follows_called}
 use Rattle.load_core.proofs.Runs.{Same, moves_same}
 use Rattle.change_core.specs.Changes.{committed_outcome, last_member, since_of}
-use Rattle.change_core.proofs.Forms.{refused_as}
 use Rattle.machine_core.specs.Machines.{Asking, Called}
 use Rattle.read_machine.specs.declared.readings.Reading.{Reading}
 use Rattle.read_machine.specs.Courses.{counted}
@@ -51,72 +49,12 @@ use Rattle.read_client.specs.declared.readers.Reader.{Reader}
 use Rattle.read_client.specs.Asking.{asking, question_of}
 use Rattle.read_client.specs.Following.{Follows}
 use Rattle.read_client.specs.Reading.{AsksAs, IsAsked, IsLent, IsOpen, IsSound, Moves, MovesAfterRead, MovesAfterTry, MovesBy}
-use Rattle.read_client.specs.Reading.{Wants, WantsBy, after_poll, call_by, call_of, change_poll, gone_answer, given_back}
-use Rattle.read_client.specs.Reading.{own_member, question, reading_on, shard_of, taken_back, verdict}
+use Rattle.read_client.specs.Reading.{Wants, WantsBy, after_poll, call_by, call_of, change_poll, given_back}
+use Rattle.read_client.specs.Reading.{question, reading_on, shard_of, taken_back, verdict}
 use Rattle.read_client.proofs.Changing.{Changed, opens, advances, renews, closes, changed}
 use Rattle.read_client.proofs.Questioning.{came_reads, IsReadAnswer, read_keeps}
 use Rattle.read_client.proofs.Sound.{if_any, kept_trying, lent_by}
-
--- ---- after a poll
-
--- the member after a poll, where the one of an answered open is one of those too
-pub member_so : (J : ℕ → Type 0) (r : Reader) (poll : Poll ReadAnswer) → ((joined version since : ℕ) →
-    poll ≡ polls.Done (answers.Opened joined version since) → J joined) → IfSome r.member J → IfSome (after_poll r poll).member J
-member_so J r polls.Busy open_so h = h
-member_so J r polls.More open_so h = h
-member_so J r polls.Fault open_so h = h
-member_so J r (polls.Damaged damage) open_so h = h
-member_so J r polls.Spent open_so h = h
-member_so J r (polls.Done (answers.Opened joined version since)) open_so h = open_so joined version since refl
-member_so J r (polls.Done (answers.MembersFull version)) open_so h = h
-member_so J r (polls.Done (answers.Rows rows)) open_so h = h
-member_so J r (polls.Done (answers.Early since)) open_so h = h
-member_so J r (polls.Done (answers.Late upper)) open_so h = h
-member_so J r (polls.Done (answers.Step from to rows)) open_so h = h
-member_so J r (polls.Done (answers.Quiet upper)) open_so h = h
-member_so J r (polls.Done answers.Ended) open_so h = h
-member_so J r (polls.Done (answers.Advanced version)) open_so h = h
-member_so J r (polls.Done (answers.Back since)) open_so h = h
-member_so J r (polls.Done (answers.Renewed version)) open_so h = h
-member_so J r (polls.Done (answers.Closed version)) open_so h = tt
-member_so J r (polls.Done (answers.Expired version)) open_so h = tt
-
--- no question stands after a poll that ends, and none comes up
-pub question_ended : (r : Reader) (poll : Poll ReadAnswer) → Ends poll → question (after_poll r poll) ≡ None
-question_ended r polls.Busy e = absurd e
-question_ended r polls.More e = absurd e
-question_ended r polls.Fault e = absurd e
-question_ended r (polls.Damaged damage) e = refl
-question_ended r polls.Spent e = refl
-question_ended r (polls.Done answer) e = refl
-
-pub question_after : (r : Reader) (poll : Poll ReadAnswer) → question r ≡ None → question (after_poll r poll) ≡ None
-question_after r polls.Busy e = e
-question_after r polls.More e = e
-question_after r polls.Fault e = e
-question_after r (polls.Damaged damage) e = refl
-question_after r polls.Spent e = refl
-question_after r (polls.Done answer) e = refl
-
--- the member of an answered open
-abbrev opened_of : Poll ReadAnswer → Option ℕ
-opened_of (polls.Done (answers.Opened joined version since)) = Some joined
-opened_of _ = None
-
-not_open : (poll p : Poll ReadAnswer) → poll ≡ p → opened_of p ≡ None → (joined version since : ℕ) →
-    poll ≡ polls.Done (answers.Opened joined version since) → ⊥
-not_open poll p is none joined version since h = let bad : Some joined ≡ None = sym (ap opened_of h) ∙ ap opened_of is
-    ∙ none in cc
-
-gone_opens : (asked : Asked) (version : ℕ) → opened_of (polls.Done (gone_answer asked version)) ≡ None
-gone_opens (asks.Advance to) version = refl
-gone_opens (asks.RenewReader now) version = refl
-gone_opens _ version = refl
-
-refused_opens : (r : Reader) (asked : Asked) (refusal : Refusal) → opened_of (verdict r asked (tries.Refused refusal)) ≡ None
-refused_opens r asked refusal = refused_as (λ o. opened_of (change_poll r asked o) ≡ None) r.trying.loader.cached
-    (own_member r) r.trying.step refusal refl
-    (λ v. refl) (λ v. gone_opens asked v) (λ v. refl) (λ v. refl)
+use Rattle.read_client.proofs.AfterPoll.{member_so, opened_of, question_after, question_ended, refused_opens}
 
 -- a Join gives the next number
 next_of : (from to : ShardState) (now lease : ℕ) → Applies from (Join AsReader now lease) to →

@@ -1,3 +1,4 @@
+pub mod AfterPoll
 pub mod Begun
 pub mod Calling
 pub mod ChangeLegality

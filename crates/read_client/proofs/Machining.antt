@@ -22,7 +22,7 @@ use Rattle.machine_core.specs.Machines.{Asking, CostPoll, Ending, GoesOn, IsRead
 use Rattle.read_machine.specs.declared.readings.Reading.{Reading}
 use Rattle.read_machine.specs.Courses.{counted}
 use Rattle.read_machine.specs.Readings as readings
-use Rattle.read_machine.proofs.Keeping.{none_open}
+use Rattle.read_machine.proofs.Replied.{none_open}
 use Rattle.read_client.specs.declared.questions.Question.{Question}
 use Rattle.read_client.specs.declared.readers.Reader.{Reader}
 use Rattle.read_client.specs.Asking.{asking}

@@ -27,7 +27,7 @@ use Rattle.read_machine.specs.declared.readings.Reading.{Reading}
 use Rattle.read_machine.specs.Courses.{counted}
 use Rattle.read_machine.specs.Readings as readings
 use Rattle.machine_core.specs.Machines.{GoesOn}
-use Rattle.read_machine.proofs.Keeping.{ended_none, more_kept as read_kept, read_stays, sound_by}
+use Rattle.read_machine.proofs.Replied.{ended_none, more_kept as read_kept, read_stays, sound_by}
 use Rattle.read_machine.proofs.Sound.{Ends}
 use Rattle.read_machine.proofs.Ways.{Stays}
 use Rattle.read_client.specs.declared.questions.Question.{Question}

@@ -1,19 +1,16 @@
 -- What holds of a machine whose commands each ask a shard a question. Entries go newest first.
-use Rattle.std.proofs.Common.{◌≡◌, ◌≢◌, ◌+◌, ◌<◌, ◌≤◌, ◌^◌, ℕ, true, false, Option, Some, None, List, ◌∷◌, ◌++◌, length, inl, inr}
-use Rattle.std.proofs.Common.{refl, sym, ap, subst, ◌∙◌, arith}
+use Rattle.std.proofs.Common.{◌≡◌, ◌≢◌, ◌+◌, ◌<◌, ◌≤◌, ◌^◌, ℕ, Option, Some, None, List, ◌∷◌, ◌++◌, length, inl}
+use Rattle.std.proofs.Common.{sym, ap, subst, ◌∙◌, arith}
 use Rattle.std.specs.Prelude.{⊤, IfSome, IsSome, IsSomeAnd, filter}
 use Rattle.update_core.specs.declared.updates.Update.{Update}
-use Rattle.store_core.specs.declared.part_keys.PartKey.{PartKey}
-use Rattle.store_core.specs.declared.shards.ShardId.{ShardId}
 use Rattle.store_core.specs.declared.calls.Call.{Call}
 use Rattle.store_core.specs.declared.calls.Call.TheVariants as calls
 use Rattle.store_core.specs.declared.versions.Version.{Version}
 use Rattle.store_core.specs.declared.entries.Entry.{Entry}
 use Rattle.store_core.specs.declared.replies.Reply.{Reply}
 use Rattle.store_core.specs.declared.replies.Reply.TheVariants as replies
-use Rattle.store_core.specs.Histories.{reply}
-use Rattle.store_core.specs.Newest.{mine_back, replay_back}
-use Rattle.store_core.specs.Ports.{Answered, OfOthers, answered}
+use Rattle.store_core.specs.Newest.{mine_back}
+use Rattle.store_core.specs.Ports.{Answered}
 use Rattle.store_core.specs.Stores.{Stored}
 use Rattle.state_core.specs.States.{ShardState, keys_of}
 use Rattle.state_core.specs.VersionReading.{most}
@@ -21,7 +18,6 @@ use Rattle.state_core.proofs.VersionFacts.{version_in_state}
 use Rattle.history_core.specs.Costs.{failed_calls}
 use Rattle.history_core.specs.Discipline.{Allows, ShowsState}
 use Rattle.history_core.specs.Placing.{places}
-use Rattle.history_core.proofs.Gaining.{mine_gained, mine_others}
 use Rattle.load_core.specs.declared.polls.Poll.{Poll}
 use Rattle.load_core.specs.declared.polls.Poll.TheVariants as polls
 use Rattle.load_core.specs.Effects.{CommitsNone, IsShown}
@@ -29,8 +25,7 @@ use Rattle.load_core.specs.Loading.{scan_from}
 use Rattle.load_core.specs.Following.{FollowsLoading}
 use Rattle.load_core.specs.Getting as getting
 use Rattle.load_core.specs.Trying.{more}
-use Rattle.load_core.proofs.Following.{shows_on}
-use Rattle.machine_core.specs.Machines.{Asking, Called, CostPoll, Ending, GoesOn, IsReading, Keeps, LegalPoll, reply_there}
+use Rattle.machine_core.specs.Machines.{Asking, Called, CostPoll, Ending, IsReading, Keeps, LegalPoll, reply_there}
 use Rattle.read_machine.specs.declared.courses.Course.{Course}
 use Rattle.read_machine.specs.declared.readings.Reading.{Reading}
 use Rattle.read_machine.specs.declared.stages.Stage.{Stage}
@@ -38,135 +33,18 @@ use Rattle.read_machine.specs.declared.stages.Stage.TheVariants as stages
 use Rattle.read_machine.specs.Courses.{counted, read_call}
 use Rattle.read_machine.specs.Following.{FollowsAsked, ReadCost}
 use Rattle.read_machine.specs.Questions.{IsQuestion, Questions}
-use Rattle.read_machine.specs.Readings.{Did, DidBy, Follows, IsGetting, IsReading as IsReadingAt, IsSound, Moves, MovesBy}
-use Rattle.read_machine.specs.Readings.{ReadKept, ReadsOf, SoundBy, asked_after, kept, words}
+use Rattle.read_machine.specs.Readings.{Did, DidBy, Follows, IsGetting, IsReading as IsReadingAt, IsSound, Moves}
+use Rattle.read_machine.specs.Readings.{ReadKept, asked_after, kept, words}
 use Rattle.read_machine.proofs.Costs.{CostAfter, read_cost}
 use Rattle.read_machine.proofs.FollowsOn.{counted_on, read_on, shown_still}
-use Rattle.read_machine.proofs.HowRead.{HowRead, IsScanStage, how_read}
+use Rattle.read_machine.proofs.HowRead.{IsScanStage}
 use Rattle.read_machine.proofs.Legality.{LegalAfter, read_legal}
 use Rattle.read_machine.proofs.Parts.{Asks, asks_call, few_keys, gets, scans, some_parts}
-use Rattle.read_machine.proofs.Since.{asked_others}
 use Rattle.read_machine.proofs.Sound.{Ends, at_stage}
-use Rattle.read_machine.proofs.Ways.{Stays, did, stays}
-
-pub none_open : {T : Type 0} (o : Option T) → ¬ IsSome o → o ≡ None
-none_open None closed = refl
-none_open (Some a) closed = absurd (closed refl)
-
--- what holds of each Scan of the shard and of each Get
-pub of_reads : (P : Call → Type 0) (shard : ShardId) (call : Call) → ((from : ℕ) → P (calls.Scan shard from)) →
-    ((key : PartKey) → P (calls.Get key)) → ReadsOf shard call → P call
-of_reads P shard call scan get (inl (from, is)) = subst P (sym is) (scan from)
-of_reads P shard call scan get (inr (key, is)) = subst P (sym is) (get key)
+use Rattle.read_machine.proofs.Ways.{did}
+use Rattle.read_machine.proofs.Replied.{more_kept, of_reads, open_asked, others_on, read_so, read_stays, reads_of, same_call, sound_by, spared_on}
 
 module _ {Q A : Type 0} (W : Questions Q A) where
-  -- a command that is open and what a reply makes of it
-  pub record Read (m new : Reading Q) (r : Reply) (poll : Poll A) : Type 0 where
-    pub q : Q
-    pub asked : m.asked ≡ Some q
-    pub course : Course
-    pub how : HowRead W (counted m.course) q r course poll
-    pub now : new ≡ record { course = course; asked = asked_after (Some q) poll }
-
-  pub read_so : (m new : Reading Q) (r : Reply) (poll : Poll A) → Moves W m r new poll → Read m new r poll
-  read_so m new r poll moves = go m.asked refl moves
-    where
-      go : (o : Option Q) → m.asked ≡ o → IsSomeAnd o (λ q. MovesBy W q m r new poll) → Read m new r poll
-      go None is h = absurd h
-      go (Some q) is (c, h, now) = record {
-        q = q;
-        asked = is;
-        course = c;
-        how = how_read W
-            (counted m.course) q r c poll h;
-        now = now;
-      }
-
-  pub read_stays : (m new : Reading Q) (r : Reply) (poll : Poll A) → Moves W m r new poll → Stays (counted m.course) new.course
-  read_stays m new r poll moves =
-      let x = read_so m new r poll moves in
-      subst (λ (z : Reading Q). Stays (counted m.course) z.course) (sym x.now) (stays W
-      (counted m.course) x.q r x.course poll x.how)
-
-  same_kept : (m new : Reading Q) → Stays (counted m.course) new.course → new.asked ≡ m.asked → kept new ≡ kept m
-  same_kept m new s asked = λ i. record { asked = asked i; member = s.member i; shard = s.shard i }
-
-  pub more_kept : (m new : Reading Q) (r : Reply) (poll : Poll A) → Moves W m r new poll → GoesOn poll → kept new ≡ kept m
-  more_kept m new r poll moves on =
-      let x = read_so m new r poll moves in
-      same_kept m new (read_stays m new r poll moves) (ap (λ (z : Reading Q). z.asked) x.now ∙ as_asked poll x.q on ∙ sym x.asked)
-    where
-      as_asked : (p : Poll A) (q : Q) → GoesOn p → asked_after (Some q) p ≡ Some q
-      as_asked polls.Busy q o = refl
-      as_asked polls.More q o = refl
-      as_asked polls.Fault q o = refl
-      as_asked polls.Spent q o = absurd o
-      as_asked (polls.Damaged damage) q o = absurd o
-      as_asked (polls.Done a) q o = absurd o
-
-  -- where it has ended nothing is asked
-  pub ended_none : (m new : Reading Q) (r : Reply) (poll : Poll A) → Moves W m r new poll → Ends poll → new.asked ≡ None
-  ended_none m new r poll moves over = let x = read_so m new r poll moves in ap (λ (z : Reading Q). z.asked) x.now
-      ∙ go poll x.q over
-    where
-      go : (p : Poll A) (q : Q) → Ends p → asked_after (Some q) p ≡ None
-      go polls.Busy q h = absurd h
-      go polls.More q h = absurd h
-      go polls.Fault q h = absurd h
-      go polls.Spent q h = refl
-      go (polls.Damaged damage) q h = refl
-      go (polls.Done a) q h = refl
-
-  -- ---- its call
-
-  reads_of : (c : Course) (call : Call) → read_call c c.stage ≡ Some call → ReadsOf c.loader.shard call
-  reads_of c call is = by (asks_call c call is)
-    where
-      by : Asks c call → ReadsOf c.loader.shard call
-      by (scans st e) = inl (scan_from c.loader.cached, e)
-      by (gets key st at e) = inr (key, e)
-
-  same_call : (c : Course) (stage : Stage) → read_call (counted c) stage ≡ read_call c stage
-  same_call c stages.Scan = refl
-  same_call c stages.Get = refl
-  same_call c (stages.Check key) = refl
-
-  open_asked : (m : Reading Q) → IsSome m.asked → (q : Q) × (m.asked ≡ Some q)
-  open_asked m is = go m.asked is refl
-    where
-      go : (o : Option Q) → IsSome o → m.asked ≡ o → (q : Q) × (m.asked ≡ Some q)
-      go None some e = absurd (let bad : false ≡ true = some in cc)
-      go (Some q) some e = (q, e)
-
-  pub sound_by : (m : Reading Q) (q : Q) → m.asked ≡ Some q → IsSound W m → SoundBy W m.course q
-  sound_by m q is s = let h = s.asked in subst (λ (o : Option Q). IfSome o (SoundBy W m.course)) is h
-
-  -- ---- entries
-
-  others_on : (client : ℕ) (m : Reading Q) (start : Stored) (others es : List Entry) → OfOthers client others →
-      Follows W client m start es →
-      Follows W client m start (others ++ es)
-  others_on client m start others es of f = record {
-    shown = subst (FollowsLoading m.course.loader) (sym (mine_others start client others es of)) f.shown;
-    asked = go m.asked f.asked;
-  }
-    where
-      go : (o : Option Q) → IfSome o (λ q. FollowsAsked W.kind client m.course start es) →
-          IfSome o (λ q. FollowsAsked W.kind client m.course start (others ++ es))
-      go None h = h
-      go (Some q) h = asked_others W.kind start client others es of m.course h
-
-  spared_on : (client : ℕ) (m : Reading Q) (start : Stored) (e : Entry) (others es : List Entry) → ¬ IsSome m.asked →
-      e.client ≡ client →
-      OfOthers client others → Follows W client m start es → Follows W client m start (e ∷ (others ++ es))
-  spared_on client m start e others es closed own of f = record {
-    shown = subst (FollowsLoading m.course.loader) (sym (mine_gained start client e others es own of))
-        (shows_on (answered e (reply (replay_back start (others ++ es)) e)) (mine_back start es client) m.course.loader.shard
-        m.course.loader.cached f.shown);
-    asked = subst (λ (o : Option Q). IfSome o (λ q. FollowsAsked W.kind client m.course start (e ∷ (others ++ es))))
-        (sym (none_open m.asked closed)) tt;
-  }
-
   -- ---- at its place
 
   module _ (L : IsQuestion W) (client : ℕ) (m : Reading Q) (call : Call) (list : List Update) (start : Stored) (e : Entry)
@@ -185,9 +63,9 @@ module _ {Q A : Type 0} (W : Questions Q A) where
     pub moved_follows : (new : Reading Q) (poll : Poll A) → Moves W m (reply_there start e others es) new poll →
         Follows W client new start now
     moved_follows new poll moves =
-        let x = read_so m new (reply_there start e others es) poll moves in
+        let x = read_so W m new (reply_there start e others es) poll moves in
         let on = read_on W L start list client m.course x.q e others es
-        (sound_by m x.q x.asked a.ready) call_is c.own c.of_others c.stands
+        (sound_by W m x.q x.asked a.ready) call_is c.own c.of_others c.stands
         c.lawful a.follows.shown (asked_by x.q x.asked) x.course poll x.how in
         subst (λ (z : Reading Q). Follows W client z start now) (sym x.now)
         (record { shown = on.0; asked = go poll x.course x.q on.1 })
@@ -203,8 +81,8 @@ module _ {Q A : Type 0} (W : Questions Q A) where
 
     pub wanted_follows : (new : Reading Q) → new ≡ record m { course = counted m.course } → Follows W client new start now
     wanted_follows new is =
-        let (q, asked) = open_asked m a.is_open in
-        let s = sound_by m q asked a.ready in
+        let (q, asked) = open_asked W m a.is_open in
+        let s = sound_by W m q asked a.ready in
         subst (λ (z : Reading Q). Follows W client z start now) (sym is) (record {
           shown = shown_still W L start list client m.course q e others es s call_is c.own c.of_others c.stands c.lawful
               a.follows.shown
@@ -218,10 +96,10 @@ module _ {Q A : Type 0} (W : Questions Q A) where
     pub moved_legal : (new : Reading Q) (poll : Poll A) → Moves W m (reply_there start e others es) new poll →
         LegalPoll (words W) client (kept m) new.course.calls poll start now list
     moved_legal new poll moves =
-        let x = read_so m new (reply_there start e others es) poll moves in
-        go poll x.q x.asked (read_stays m new (reply_there start e others es) poll moves).calls
+        let x = read_so W m new (reply_there start e others es) poll moves in
+        go poll x.q x.asked (read_stays W m new (reply_there start e others es) poll moves).calls
         (read_legal W L start list client m.course x.q e others es
-        (sound_by m x.q x.asked a.ready) call_is c.own c.of_others c.stands c.lawful
+        (sound_by W m x.q x.asked a.ready) call_is c.own c.of_others c.stands c.lawful
         a.follows.shown (asked_by x.q x.asked) x.course poll x.how)
       where
         go : (p : Poll A) (q : Q) → m.asked ≡ Some q → new.course.calls ≡ more m.course.calls →
@@ -243,7 +121,7 @@ module _ {Q A : Type 0} (W : Questions Q A) where
         (m.course.calls < most → ReadCost client m.course m.course.stage es) →
         CostPoll (words W) base client old new poll start now list
     moved_cost base old new poll same moves at =
-        let x = read_so m new (reply_there start e others es) poll moves in
+        let x = read_so W m new (reply_there start e others es) poll moves in
         let cost = read_cost W client m.course x.q start e others es call_is c.own c.of_others
         (left x.q x.asked) at x.course poll x.how in
         let now_is : new.course ≡ x.course = ap (λ (z : Reading Q). z.course) x.now in
@@ -251,7 +129,7 @@ module _ {Q A : Type 0} (W : Questions Q A) where
         (go poll (subst (λ (k : Course). CostAfter client m.course now k poll) (sym now_is) cost))
       where
         left : (q : Q) → m.asked ≡ Some q → m.course.stage ≡ stages.Get → getting.IsOpen m.course.getting
-        left q is stage = go m.course.loader.cached (at_stage W m.course q (sound_by m q is a.ready) stages.Get stage)
+        left q is stage = go m.course.loader.cached (at_stage W m.course q (sound_by W m q is a.ready) stages.Get stage)
           where
             go : (o : Option ShardState) → IsSomeAnd o (IsGetting W m.course q) → getting.IsOpen m.course.getting
             go None h = absurd h
@@ -288,8 +166,8 @@ module _ {Q A : Type 0} (W : Questions Q A) where
         Follows W client m start es →
         ReadCost client m.course m.course.stage es → failed_calls client m.course.calls es ≡ 0 → m.course.calls ≤ 2 ^ 62 + 3
     few_calls client m start es is sound follows cost failed =
-        let (q, asked) = open_asked m is in
-        by_stage q m.course.stage (sound_by m q asked sound).reading cost
+        let (q, asked) = open_asked W m is in
+        by_stage q m.course.stage (sound_by W m q asked sound).reading cost
       where
         by_stage : (q : Q) (stage : Stage) → IsReadingAt W m.course stage q → ReadCost client m.course stage es →
             m.course.calls ≤ 2 ^ 62 + 3
@@ -316,9 +194,9 @@ module _ {Q A : Type 0} (W : Questions Q A) where
         Moves W m r new poll →
         IsSomeAnd m.asked (λ q. DidBy W q Shown r poll)
     read_did m new r poll Shown shown sound moves =
-        let x = read_so m new r poll moves in
+        let x = read_so W m new r poll moves in
         subst (λ (o : Option Q). IsSomeAnd o (λ q. DidBy W q Shown r poll)) (sym x.asked)
-        (did W (counted m.course) x.q r x.course poll Shown shown (sound_by m x.q x.asked sound).known x.how)
+        (did W (counted m.course) x.q r x.course poll Shown shown (sound_by W m x.q x.asked sound).known x.how)
 
     did_so : (m new : Reading Q) (r : Reply) (poll : Poll A) (P : Type 0) → ((q : Q) → DidBy W q ⊤ r poll → P) → IsSound W m →
         Moves W m r new poll → P
@@ -332,7 +210,7 @@ module _ {Q A : Type 0} (W : Questions Q A) where
         read_call m.course m.course.stage ≡ Some call →
         Moves W m r new poll → Did W (kept m) call r poll
     did_of m new call r poll sound is moves = record {
-      reads = reads_of m.course call is;
+      reads = reads_of W m.course call is;
       did = read_did m new r poll (IsShown m.course.loader.shard call r) (λ vs st e. (
         scan_shown
             (asks_call m.course call is) st,
@@ -353,24 +231,24 @@ module _ {Q A : Type 0} (W : Questions Q A) where
       prepared_follows = λ client old new start es p f. subst (λ (z : Reading Q). Follows W client z start es) (sym p) f;
       prepared_cost = λ base client old new start es list p at. subst (λ (z : Reading Q). z.course.calls < most →
           ReadCost client z.course z.course.stage es) (sym p) at;
-      others_follow = others_on;
-      spared_follows = λ client m start e others es closed spares. spared_on client m start e others es closed;
-      moved_kept = λ m new r poll ready. more_kept m new r poll;
+      others_follow = others_on W;
+      spared_follows = λ client m start e others es closed spares. spared_on W client m start e others es closed;
+      moved_kept = λ m new r poll ready. more_kept W m new r poll;
       moved_open = λ m new r poll ready is moves on. subst (λ (k : ReadKept Q). IsSome k.asked) (sym
-          (more_kept m new r poll moves on)) is;
-      moved_shard = λ m new r poll moves. (read_stays m new r poll moves).shard;
+          (more_kept W m new r poll moves on)) is;
+      moved_shard = λ m new r poll moves. (read_stays W m new r poll moves).shard;
       ended = λ m new r answer moves. record {
-        asked = ap (λ (z : Reading Q). z.asked) (read_so m new r (polls.Done answer) moves).now;
-        shard = (read_stays m new r (polls.Done answer) moves).shard;
+        asked = ap (λ (z : Reading Q). z.asked) (read_so W m new r (polls.Done answer) moves).now;
+        shard = (read_stays W m new r (polls.Done answer) moves).shard;
       };
       never_busy = λ m new r. did_so m new r polls.Busy ⊥ (λ q d. d);
       fault_failed = λ m new r. did_so m new r polls.Fault (r ≡ replies.Failed) (λ q d. d);
       more_answered = λ m new r. did_so m new r polls.More (r ≢ replies.Failed) (λ q d. d.answered);
-      counted = λ m new r poll moves. (read_stays m new r poll moves).calls;
+      counted = λ m new r poll moves. (read_stays W m new r poll moves).calls;
       effect = λ m new call r poll ready is call_is moves. did_of m new call r poll ready call_is moves;
       allowed = λ client m call start es a. of_reads (Allows (mine_back start es client)) m.course.loader.shard call
           (λ from. tt) (λ key. tt)
-          (reads_of m.course call a.call_is);
+          (reads_of W m.course call a.call_is);
       follows = λ client m new call poll list start e others es a c moves. moved_follows L client m call list start e others es a
           c new poll
           moves;
@@ -383,8 +261,8 @@ module _ {Q A : Type 0} (W : Questions Q A) where
       wanted_counted = λ m new h. ap (λ (z : Reading Q). z.course.calls) h;
       wanted_open = λ m new h is. subst (λ (z : Reading Q). IsSome z.asked) (sym h) is;
       wanted_reads = λ m new call ready h is. (
-        of_reads IsReading m.course.loader.shard call (λ from. tt) (λ key. tt) (reads_of m.course call is),
-        ap (λ (z : Reading Q). read_call z.course z.course.stage) h ∙ same_call m.course m.course.stage ∙ is,
+        of_reads IsReading m.course.loader.shard call (λ from. tt) (λ key. tt) (reads_of W m.course call is),
+        ap (λ (z : Reading Q). read_call z.course z.course.stage) h ∙ same_call W m.course m.course.stage ∙ is,
       );
       wanted_follows = λ client m new call list start e others es a c h. wanted_follows L client m call list start e others es a
           c new h;

@@ -64,26 +64,12 @@ use Rattle.read_machine.specs.Readings.{IsGetting, SoundBy}
 use Rattle.read_machine.proofs.FollowsOn.{get_is, scan_done, scan_is, scan_last}
 use Rattle.read_machine.proofs.HowRead.{HowGot, HowRead, IsScanStage, checked, damaged, fails, gains, got, heavy, misses, scanned}
 use Rattle.read_machine.proofs.HowRead.{spoilt, unscanned}
-use Rattle.read_machine.proofs.Parts.{names_key, some_parts}
-use Rattle.read_machine.proofs.Places.{gone_back, joined_owns, next_count}
+use Rattle.read_machine.proofs.Parts.{names_key, some_parts, some_is}
+use Rattle.read_machine.proofs.Places.{gone_back, joined_owns, next_count, read_no_cas}
 use Rattle.read_machine.proofs.Since.{asked_others}
 use Rattle.read_machine.proofs.Sound.{HowSight, answers, at_stage, empty, gone, how_sight, parts, strange}
 use Rattle.read_machine.proofs.Stretch.{replay_behind}
 use Rattle.read_machine.proofs.Undamaged.{got_light, got_reads, last_then, part_reads}
-
--- the value that is there
-pub some_is : {T : Type 0} (P : T → Type 0) (o : Option T) → IsSomeAnd o P → (x : T) × (o ≡ Some x) × P x
-some_is P None h = absurd h
-some_is P (Some x) h = (x, refl, h)
-
-read_no_cas : (call : Call) → IsRead call → is_cas call ≡ false
-read_no_cas (calls.Scan shard from) h = refl
-read_no_cas (calls.Get k) h = refl
-read_no_cas (calls.Head shard) h = absurd h
-read_no_cas (calls.Cas shard expected bytes) h = absurd h
-read_no_cas (calls.Truncate shard below) h = absurd h
-read_no_cas (calls.Set k b) h = absurd h
-read_no_cas (calls.Delete k) h = absurd h
 
 -- what a poll comes to is legal at the end of these entries, after one call more
 abbrev pub LegalAfter : {Q A : Type 0} → Questions Q A → ℕ → Course → Q → Stored → List Update → List Entry → Poll A → Type 0

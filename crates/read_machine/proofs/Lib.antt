@@ -7,6 +7,7 @@ pub mod Moving
 pub mod PartWeights
 pub mod Parts
 pub mod Places
+pub mod Replied
 pub mod Shown
 pub mod Since
 pub mod Sound

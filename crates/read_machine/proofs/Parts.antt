@@ -1,7 +1,7 @@
 -- The parts that a question reads: their keys are named by the state, and there are few; and the call of a reading.
 use Rattle.std.proofs.Common.{◌≡◌, ◌+◌, ◌≤◌, Bool, cond, Option, Some, None, List, [], ◌∷◌, length, inl, inr, refl, sym, subst}
 use Rattle.std.proofs.Common.{arith}
-use Rattle.std.specs.Prelude.{filter}
+use Rattle.std.specs.Prelude.{IsSomeAnd, filter}
 use Rattle.std.specs.List.{AllByRecursion}
 use Rattle.std.specs.Option.{option_map}
 use Rattle.std.proofs.lemmas.List.{length-append}
@@ -24,6 +24,11 @@ use Rattle.read_machine.specs.Questions.{IsQuestion, Questions, SomeParts}
 use Rattle.read_machine.specs.Readings.{IsGetting}
 use Rattle.read_machine.proofs.HowRead.{IsScanStage}
 use Rattle.read_machine.proofs.Undamaged.{index_among}
+
+-- the value that is there
+pub some_is : {T : Type 0} (P : T → Type 0) (o : Option T) → IsSomeAnd o P → (x : T) × (o ≡ Some x) × P x
+some_is P None h = absurd h
+some_is P (Some x) h = (x, refl, h)
 
 -- ---- the keys of parts are of batches of the state
 

@@ -1,5 +1,5 @@
 -- Where the calls of a reading stand in a history. Entries go newest first.
-use Rattle.std.proofs.Common.{◌≡◌, ℕ, zero, suc, ◌+◌, ◌<◌, true, false, None, List, [], ◌∷◌, ◌++◌, ◌⊎◌, inl, inr, sym, ap, subst}
+use Rattle.std.proofs.Common.{◌≡◌, ℕ, zero, suc, ◌+◌, ◌<◌, true, false, None, List, [], ◌∷◌, ◌++◌, ◌⊎◌, inl, inr, refl, sym, ap, subst}
 use Rattle.std.proofs.Common.{◌∙◌, arith, eqb}
 use Rattle.std.specs.Prelude.{reverse}
 use Rattle.std.proofs.lemmas.Bool.{eq-eqb, eqb-true}
@@ -7,6 +7,8 @@ use Rattle.std.proofs.lemmas.List.{reverse-append, reverse-reverse}
 use Rattle.update_core.specs.declared.updates.Update.{Update}
 use Rattle.store_core.specs.declared.shards.ShardId.{ShardId}
 use Rattle.store_core.specs.declared.part_keys.PartKey.{PartKey}
+use Rattle.store_core.specs.declared.calls.Call.{Call}
+use Rattle.store_core.specs.declared.calls.Call.TheVariants as calls
 use Rattle.store_core.specs.declared.entries.Entry.{Entry}
 use Rattle.store_core.specs.Stores.{Stored}
 use Rattle.store_core.specs.Histories.{History, reply, store_after}
@@ -32,6 +34,7 @@ use Rattle.history_core.proofs.MemberStands.{is_join}
 use Rattle.history_core.proofs.Walking.{all_back}
 use Rattle.load_core.specs.Trying.{more}
 use Rattle.load_core.proofs.Gaining.{lawful_forth}
+use Rattle.read_machine.specs.Following.{IsRead}
 use Rattle.read_machine.specs.Questions.{NoScanOf, own_count}
 use Rattle.read_machine.proofs.Stretch.{replay_behind}
 
@@ -86,6 +89,16 @@ since_got client (suc n) start shard k b X on (x ∷ xs) scan before quiet few g
       let few2 : own_count client xs < suc n = rw e at few in
       rw e (since_got client (suc n) start shard k b X on xs scan before quiet.1 few2 (rw e at got))
 ]
+
+-- a Scan or a Get is no Cas
+pub read_no_cas : (call : Call) → IsRead call → is_cas call ≡ false
+read_no_cas (calls.Scan shard from) h = refl
+read_no_cas (calls.Get k) h = refl
+read_no_cas (calls.Head shard) h = absurd h
+read_no_cas (calls.Cas shard expected bytes) h = absurd h
+read_no_cas (calls.Truncate shard below) h = absurd h
+read_no_cas (calls.Set k b) h = absurd h
+read_no_cas (calls.Delete k) h = absurd h
 
 -- ---- laws of histories, with the newest entry first
 
