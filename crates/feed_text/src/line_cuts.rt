@@ -10,8 +10,8 @@ fn place_of(byte: u8, text: &[u8]) -> Option<usize>
     text.iter().position(|x| *x == byte)
 }
 
-// What stands before the first such byte, and what stands after it.
-pub(crate) fn cut_at(byte: u8, text: &[u8]) -> Option<(&[u8], &[u8])>
+/// What stands before the first such byte, and what stands after it.
+pub fn cut_at(byte: u8, text: &[u8]) -> Option<(&[u8], &[u8])>
     ensures { MatchOption result (AllByRecursion (λ x. x ≢ byte) text.now)
         (λ cut. (text.now ≡ cut.0.now ++ byte ∷ cut.1.now) × AllByRecursion (λ x. x ≢ byte) cut.0.now) }
 {
