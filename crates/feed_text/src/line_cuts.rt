@@ -19,8 +19,8 @@ pub fn cut_at(byte: u8, text: &[u8]) -> Option<(&[u8], &[u8])>
     Some((&text[..place], &text[place + 1..]))
 }
 
-// The first line of a text that has one, and the text after it.
-pub(crate) fn next_line(text: &[u8]) -> (&[u8], &[u8])
+/// The first line of a text that has one, and the text after it.
+pub fn next_line(text: &[u8]) -> (&[u8], &[u8])
     requires { 0 < length text.now }
     ensures lines { lines_of text.now ≡ result.0.now ∷ lines_of result.1.now }
     ensures one_line { AllByRecursion (λ b. b ≢ 10) result.0.now }

@@ -13,7 +13,8 @@ use Rattle.step_text.specs.Commands.{IsTimed, command_text}
 use Rattle.step_text.specs.Words.{IsPolls}
 use Rattle.step_text.specs.declared.schedules.SoFar.{SoFar}
 use Rattle.step_text.specs.declared.verbs.Verb.TheVariants as verbs
-use Rattle.step_text.specs.Schedules.{TakesRest}
+use Rattle.step_text.specs.declared.verbs.Verb.{Verb}
+use Rattle.step_text.specs.Schedules.{Free, TakesRest, verb_word}
 
 -- ---- counts
 
@@ -127,3 +128,28 @@ pub bad_polls : (text word rest : List ℕ) → text ≡ word ++ 32 ∷ rest →
     ((n : ℕ) → IsPolls n → rest ≡ decimal n → ⊥) → IsUnpolled text
 bad_polls text word rest cut lacks bad = λ name n spaceless within is.
     bad n within ((cut_once word name rest (decimal n) lacks spaceless (sym cut ∙ is)).1)
+
+-- ---- the first words of lines
+
+pub verb_lacks : (v : Verb) → Lacks 32 (verb_word v)
+unfolding without
+verb_lacks verbs.Writer = lacks_test 32 (codes "writer") refl
+verb_lacks verbs.Reader = lacks_test 32 (codes "reader") refl
+verb_lacks verbs.Compactor = lacks_test 32 (codes "compactor") refl
+verb_lacks verbs.Collector = lacks_test 32 (codes "collector") refl
+verb_lacks verbs.Expirer = lacks_test 32 (codes "expirer") refl
+verb_lacks verbs.Moment = lacks_test 32 (codes "moment") refl
+verb_lacks verbs.Begin = lacks_test 32 (codes "begin") refl
+verb_lacks verbs.Step = lacks_test 32 (codes "step") refl
+verb_lacks verbs.Stop = lacks_test 32 (codes "stop") refl
+
+head_lacks : Lacks 32 (codes "head")
+unfolding without
+head_lacks = lacks_test 32 (codes "head") refl
+
+-- a line whose first word is no verb
+pub no_verb : (s : SoFar) (line word rest : List ℕ) → line ≡ word ++ 32 ∷ rest → Lacks 32 word → ((v : Verb) → word ≡ verb_word v → ⊥) →
+    (t : SoFar) → Free s line t → ⊥
+no_verb s line word rest cut lacks none t (inl head) = no_cut 32 (codes "head") word rest head_lacks (sym head.0 ∙ cut)
+no_verb s line word rest cut lacks none t (inr v) =
+    none v.verb ((cut_once word (verb_word v.verb) rest v.rest lacks (verb_lacks v.verb) (sym cut ∙ v.text)).0)

@@ -1,10 +1,13 @@
 -- The lines of a schedule: what each says, and where it may stand.
-use Rattle.std.specs.Prelude.{◌≡◌, ◌⊎◌, ℕ, ◌+◌, ◌^◌, ◌<◌, ◌≤◌, Bool, true, false, Option, Some, None, IfSome, List, [], ◌∷◌, ◌++◌, length, codes, Contains, if◌then◌else◌}
+use Rattle.std.specs.Prelude.{⊤, ◌≡◌, ◌⊎◌, ℕ, ◌+◌, ◌^◌, ◌<◌, ◌≤◌, Bool, true, false, Option, Some, None, IfSome, List, [], ◌∷◌, ◌++◌, length, codes, Contains, if◌then◌else◌}
 use Rattle.std.specs.Str.{bytes_eq}
 use Rattle.std.specs.Fmt.{decimal}
 use Rattle.update_core.specs.declared.updates.Update.{Update}
-use Rattle.feed_text.specs.Grammar.{IsRow, append_line, dot_line, row_line}
-use Rattle.feed_text.specs.declared.limits.TheConstants.{MAX_COMMANDS, MAX_ROWS}
+use Rattle.feed_text.specs.declared.line_faults.LineFault.{LineFault}
+use Rattle.feed_text.specs.declared.line_faults.LineFault.TheVariants as faults
+use Rattle.feed_text.specs.Grammar.{IsRow, append_line, dot_line, lines_read, row_line}
+use Rattle.feed_text.specs.Lines.{lines_of}
+use Rattle.feed_text.specs.declared.limits.TheConstants.{MAX_BYTES, MAX_COMMANDS, MAX_ROWS}
 use Rattle.step_text.specs.declared.makes.Made.{Made}
 use Rattle.step_text.specs.declared.makes.Made.TheVariants as makes
 use Rattle.step_text.specs.declared.commands.Command.{Command}
@@ -17,6 +20,7 @@ use Rattle.step_text.specs.declared.seats.Seat.{Seat}
 use Rattle.step_text.specs.declared.seats.Named.{Named}
 use Rattle.step_text.specs.declared.schedules.Block.{Block}
 use Rattle.step_text.specs.declared.schedules.SoFar.{SoFar}
+use Rattle.step_text.specs.declared.schedules.Schedule.{Schedule}
 use Rattle.step_text.specs.declared.rules.TheConstants.{MAX_CLIENTS}
 use Rattle.step_text.specs.Words.{IsName, IsPolls}
 use Rattle.step_text.specs.Commands.{IsShort, command_text}
@@ -115,3 +119,93 @@ TakesRest verbs.Step s rest t =
     × (t ≡ said s (lines.Step seat.number polls))
 TakesRest verbs.Stop s rest t =
     (seat : Seat) × Stands s rest seat × (t ≡ record (said s (lines.Stop seat.number)) { stopped = s.stopped ++ seat.number ∷ [] })
+
+-- a line of a verb and what stands behind it
+pub record Verbed (s : SoFar) (line : List ℕ) (t : SoFar) : Type 0 where
+  pub verb : Verb
+  pub rest : List ℕ
+  pub text : line ≡ verb_word verb ++ 32 ∷ rest
+  pub takes : TakesRest verb s rest t
+
+-- a line outside a block
+abbrev pub Free : SoFar → List ℕ → SoFar → Type 0
+Free s line t = ((line ≡ codes "head") × (t ≡ said s lines.Head)) ⊎ Verbed s line t
+
+-- a row in a block
+pub record RowLine (s : SoFar) (block : Block) (line : List ℕ) (t : SoFar) : Type 0 where
+  pub row : Update
+  pub row_is : IsRow row
+  pub text : line ≡ row_line row
+  pub few : length block.append.rows < MAX_ROWS
+  pub after : t ≡ record s {
+    block = Some (record {
+      client = block.client;
+      append = record { lower = block.append.lower; upper = block.append.upper; rows = block.append.rows ++ row ∷ [] };
+    });
+  }
+
+-- the dot that ends a block
+abbrev pub DotLine : SoFar → Block → List ℕ → SoFar → Type 0
+DotLine s block line t = (line ≡ dot_line)
+    × (t ≡ record s { lines = s.lines ++ lines.Begin block.client (commands.Append block.append) ∷ []; block = None })
+
+-- a line takes the schedule so far to another, by whether a block is open; a line outside has to have room
+abbrev pub TakesIn : Option Block → SoFar → List ℕ → SoFar → Type 0
+TakesIn None s line t = (length s.lines < MAX_COMMANDS) × Free s line t
+TakesIn (Some block) s line t = DotLine s block line t ⊎ RowLine s block line t
+
+abbrev pub Takes : SoFar → List ℕ → SoFar → Type 0
+Takes s line t = TakesIn s.block s line t
+
+-- nothing said
+abbrev pub start : SoFar
+start = record { names = []; clients = []; stopped = []; lines = []; moment = 0; block = None }
+
+-- these lines take the schedule so far to another
+abbrev pub Leads : SoFar → List (List ℕ) → SoFar → Type 0
+Leads s [] t = t ≡ s
+Leads s (line ∷ more) t = (next : SoFar) × Takes s line next × Leads next more t
+
+-- Line n is the first that nothing has where it stands, counted from 1.
+pub record StopsAt (all : List (List ℕ)) (n : ℕ) : Type 0 where
+  pub taken : List (List ℕ)
+  pub line : List ℕ
+  pub rest : List (List ℕ)
+  pub parts : all ≡ taken ++ line ∷ rest
+  pub counted : n ≡ length taken + 1
+  pub before : SoFar
+  pub leads : Leads start taken before
+  pub stuck : (t : SoFar) → Takes before line t → ⊥
+
+abbrev pub IsStop : List (List ℕ) → LineFault → Type 0
+IsStop all faults.Memory = ⊤
+IsStop all (faults.Line n) = StopsAt all n
+
+-- nothing has the line here, and it has this number
+abbrev pub IsStuck : SoFar → List ℕ → ℕ → LineFault → Type 0
+IsStuck s line number faults.Memory = ⊤
+IsStuck s line number (faults.Line n) = (n ≡ number) × ((t : SoFar) → Takes s line t → ⊥)
+
+-- the lines of the text say the schedule, no block is left open, and the text isn't too long
+pub record Spells (schedule : Schedule) (text : List ℕ) : Type 0 where
+  pub end : SoFar
+  pub leads : Leads start (lines_of text) end
+  pub names : schedule.names ≡ end.names
+  pub lines : schedule.lines ≡ end.lines
+  pub closed : end.block ≡ None
+  pub few : length text ≤ MAX_BYTES
+
+-- line n is the last that is looked at, and the text ends in a block or is too long
+pub record EndsOpen (text : List ℕ) (n : ℕ) : Type 0 where
+  pub end : SoFar
+  pub leads : Leads start (lines_read text) end
+  pub last : n ≡ length (lines_read text)
+  pub open_or_long : (end.block ≡ None → ⊥) ⊎ (MAX_BYTES < length text)
+
+-- Line n is the first at fault: nothing has it where it stands, or it is the last and the text doesn't end well.
+abbrev pub IsFirstFault : List ℕ → ℕ → Type 0
+IsFirstFault text n = StopsAt (lines_read text) n ⊎ EndsOpen text n
+
+abbrev pub IsFaultOf : List ℕ → LineFault → Type 0
+IsFaultOf text faults.Memory = ⊤
+IsFaultOf text (faults.Line n) = IsFirstFault text n

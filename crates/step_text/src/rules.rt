@@ -5,6 +5,7 @@ ghost use Rattle.std.specs.List.{AllByRecursion};
 ghost use Rattle.step_text.specs.declared.schedules.SoFar.{SoFar};
 ghost use Rattle.step_text.specs.declared.verbs.Verb.TheVariants as verbs;
 ghost use Rattle.step_text.specs.declared.seats.Seat.{Seat};
+ghost use Rattle.step_text.specs.Commands.{IsShort, command_text};
 ghost use Rattle.step_text.specs.Words.{IsName, IsPolls};
 ghost use Rattle.step_text.specs.Schedules.{MadeAs, Opened, Short, Stands, TakesRest, has, seat_named};
 
@@ -14,7 +15,6 @@ use crate::makes::Made;
 use crate::names::is_name;
 use crate::schedules::{Block, SoFar};
 use crate::seats::{Named, Seat, seat_of};
-use crate::short_commands::short_command;
 use crate::step_lines::StepLine;
 use feed_text::{append_head, cut_at};
 use std::alloc::{AllocError, Global};
@@ -81,7 +81,7 @@ fn new_name(alloc: Global, so_far: &SoFar, name: &[u8]) -> Result<Option<Datum>,
 }
 
 // The schedule with one more client.
-fn making(
+pub(crate) fn making(
     alloc: Global,
     so_far: SoFar,
     name: &[u8],
@@ -107,7 +107,7 @@ fn making(
 }
 
 // The line `moment M`, behind its first word.
-fn at_moment(so_far: SoFar, rest: &[u8]) -> Result<Option<SoFar>, AllocError>
+pub(crate) fn at_moment(so_far: SoFar, rest: &[u8]) -> Result<Option<SoFar>, AllocError>
     ensures { IfOk result (λ found. MatchOption found
         ((t : SoFar) → TakesRest verbs.Moment so_far rest.now t → ⊥)
         (λ t. TakesRest verbs.Moment so_far rest.now t)) }
@@ -127,7 +127,7 @@ fn at_moment(so_far: SoFar, rest: &[u8]) -> Result<Option<SoFar>, AllocError>
 }
 
 // The line `stop NAME`, behind its first word.
-fn stopping(so_far: SoFar, rest: &[u8]) -> Result<Option<SoFar>, AllocError>
+pub(crate) fn stopping(so_far: SoFar, rest: &[u8]) -> Result<Option<SoFar>, AllocError>
     ensures { IfOk result (λ found. MatchOption found
         ((t : SoFar) → TakesRest verbs.Stop so_far rest.now t → ⊥)
         (λ t. TakesRest verbs.Stop so_far rest.now t)) }
@@ -156,7 +156,11 @@ fn named_polls(text: &[u8]) -> Option<NamedNumber<'_>>
 }
 
 // The line `reader NAME LEASE`, behind its first word.
-fn reading(alloc: Global, so_far: SoFar, rest: &[u8]) -> Result<Option<SoFar>, AllocError>
+pub(crate) fn reading(
+    alloc: Global,
+    so_far: SoFar,
+    rest: &[u8],
+) -> Result<Option<SoFar>, AllocError>
     ensures { IfOk result (λ found. MatchOption found
         ((t : SoFar) → TakesRest verbs.Reader so_far rest.now t → ⊥)
         (λ t. TakesRest verbs.Reader so_far rest.now t)) }
@@ -175,7 +179,11 @@ fn reading(alloc: Global, so_far: SoFar, rest: &[u8]) -> Result<Option<SoFar>, A
 }
 
 // The line `compactor NAME LEASE`, behind its first word.
-fn compacting(alloc: Global, so_far: SoFar, rest: &[u8]) -> Result<Option<SoFar>, AllocError>
+pub(crate) fn compacting(
+    alloc: Global,
+    so_far: SoFar,
+    rest: &[u8],
+) -> Result<Option<SoFar>, AllocError>
     ensures { IfOk result (λ found. MatchOption found
         ((t : SoFar) → TakesRest verbs.Compactor so_far rest.now t → ⊥)
         (λ t. TakesRest verbs.Compactor so_far rest.now t)) }
@@ -194,7 +202,7 @@ fn compacting(alloc: Global, so_far: SoFar, rest: &[u8]) -> Result<Option<SoFar>
 }
 
 // The line `step NAME K`, behind its first word.
-fn stepping(so_far: SoFar, rest: &[u8]) -> Result<Option<SoFar>, AllocError>
+pub(crate) fn stepping(so_far: SoFar, rest: &[u8]) -> Result<Option<SoFar>, AllocError>
     ensures { IfOk result (λ found. MatchOption found
         ((t : SoFar) → TakesRest verbs.Step so_far rest.now t → ⊥)
         (λ t. TakesRest verbs.Step so_far rest.now t)) }
@@ -239,29 +247,29 @@ fn has_command(made: Made, command: &Command) -> bool
 }
 
 // A command of one line is begun.
-fn begun(so_far: SoFar, seat: Seat, what: &[u8]) -> Result<Option<SoFar>, AllocError>
+pub(crate) fn begun(
+    so_far: SoFar,
+    seat: Seat,
+    command: Command,
+) -> Result<Option<SoFar>, AllocError>
+    requires { IsShort command }
     ensures { IfOk result (λ found. MatchOption found
-        ((t : SoFar) → Short so_far seat what.now t → ⊥)
-        (λ t. Short so_far seat what.now t)) }
+        ((t : SoFar) → Short so_far seat (command_text command) t → ⊥)
+        (λ t. Short so_far seat (command_text command) t)) }
 {
-    match short_command(what) {
-        None => Ok(None),
-        Some(command) => {
-            if !has_command(seat.made, &command) {
-                return Ok(None);
-            }
-            let mut so_far = so_far;
-            so_far.lines.push(StepLine::Begin {
-                client: seat.number,
-                what: command,
-            })?;
-            Ok(Some(so_far))
-        }
+    if !has_command(seat.made, &command) {
+        return Ok(None);
     }
+    let mut so_far = so_far;
+    so_far.lines.push(StepLine::Begin {
+        client: seat.number,
+        what: command,
+    })?;
+    Ok(Some(so_far))
 }
 
 // An append block is opened.
-fn opened(alloc: Global, so_far: SoFar, seat: Seat, what: &[u8]) -> Option<SoFar>
+pub(crate) fn opened(alloc: Global, so_far: SoFar, seat: Seat, what: &[u8]) -> Option<SoFar>
     ensures { MatchOption result
         ((t : SoFar) → Opened so_far seat what.now t → ⊥)
         (λ t. Opened so_far seat what.now t) }

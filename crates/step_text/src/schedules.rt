@@ -5,6 +5,13 @@ use crate::step_line_lists::StepLines;
 use causes::NumberList;
 use update_core::FeedAppend;
 
+/// The names of a schedule's clients, in the order of their making, and what its lines say. See docs/DEFINITIONS.md, "Schedules".
+#[derive(Drop)]
+pub struct Schedule {
+    pub names: NameList,
+    pub lines: StepLines,
+}
+
 /// An append block that is open, and whose append it is.
 #[derive(Drop)]
 pub struct Block {
