@@ -8,8 +8,8 @@ use crate::numbers::{frontier, number};
 use std::alloc::Global;
 use update_core::{FeedAppend, UpdateList};
 
-// The append that a line begins, with no rows yet.
-pub(crate) fn append_head(alloc: Global, line: &[u8]) -> Option<FeedAppend>
+/// The append that a line begins, with no rows yet.
+pub fn append_head(alloc: Global, line: &[u8]) -> Option<FeedAppend>
     ensures { MatchOption result
         ((l : ℕ) (u : Option ℕ) → l < 2 ^ 64 → IfSome u (λ t. t < 2 ^ 64) → line.now ≡ append_line l u → ⊥)
         (λ a. IsAppend a × (a.rows ≡ []) × (line.now ≡ append_line a.lower a.upper)) }

@@ -10,8 +10,8 @@ fn place_of(byte: u8, text: &[u8]) -> Option<usize>
     text.iter().position(|x| *x == byte)
 }
 
-// What stands before the first such byte, and what stands after it.
-pub(crate) fn cut_at(byte: u8, text: &[u8]) -> Option<(&[u8], &[u8])>
+/// What stands before the first such byte, and what stands after it.
+pub fn cut_at(byte: u8, text: &[u8]) -> Option<(&[u8], &[u8])>
     ensures { MatchOption result (AllByRecursion (λ x. x ≢ byte) text.now)
         (λ cut. (text.now ≡ cut.0.now ++ byte ∷ cut.1.now) × AllByRecursion (λ x. x ≢ byte) cut.0.now) }
 {
@@ -19,8 +19,8 @@ pub(crate) fn cut_at(byte: u8, text: &[u8]) -> Option<(&[u8], &[u8])>
     Some((&text[..place], &text[place + 1..]))
 }
 
-// The first line of a text that has one, and the text after it.
-pub(crate) fn next_line(text: &[u8]) -> (&[u8], &[u8])
+/// The first line of a text that has one, and the text after it.
+pub fn next_line(text: &[u8]) -> (&[u8], &[u8])
     requires { 0 < length text.now }
     ensures lines { lines_of text.now ≡ result.0.now ∷ lines_of result.1.now }
     ensures one_line { AllByRecursion (λ b. b ≢ 10) result.0.now }

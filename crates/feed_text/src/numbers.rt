@@ -54,8 +54,8 @@ fn is_plain(word: &[u8]) -> bool
     }
 }
 
-// The number that a word writes.
-pub(crate) fn number(word: &[u8]) -> Option<u64>
+/// The number that a word writes, in its one spelling, within 64 bits.
+pub fn number(word: &[u8]) -> Option<u64>
     ensures some { IfSome result (λ n. (n < 2 ^ 64) × (word.now ≡ decimal n)) }
     ensures none { IfNone result ((n : ℕ) → n < 2 ^ 64 → word.now ≡ decimal n → ⊥) }
 {

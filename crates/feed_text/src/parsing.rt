@@ -12,8 +12,8 @@ use crate::line_cuts::next_line;
 use crate::line_faults::LineFault;
 use std::alloc::Global;
 
-// The bytes that are looked at: up to the first that is too many.
-fn looked_at(bytes: &[u8]) -> &[u8]
+/// The bytes that are looked at: up to the first that is too many.
+pub fn looked_at(bytes: &[u8]) -> &[u8]
     ensures { result.now ≡ take (MAX_BYTES + 1) bytes.now }
 {
     if bytes.len() > MAX_BYTES {

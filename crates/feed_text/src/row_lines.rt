@@ -34,8 +34,8 @@ fn row_words(line: &[u8]) -> Option<RowWords<'_>>
     Some(RowWords { time, diff, datum })
 }
 
-// The row that a line spells. It takes memory for the datum.
-pub(crate) fn row(alloc: Global, line: &[u8]) -> Result<Option<Update>, AllocError>
+/// The row that a line spells. It takes memory for the datum.
+pub fn row(alloc: Global, line: &[u8]) -> Result<Option<Update>, AllocError>
     requires { AllByRecursion (λ b. b ≢ 10) line.now }
     ensures { IfOk result (λ found. MatchOption found
         ((u : Update) → IsRow u → line.now ≡ row_line u → ⊥)
