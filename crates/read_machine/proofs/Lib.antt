@@ -1,0 +1,15 @@
+pub mod Costs
+pub mod FollowsOn
+pub mod HowRead
+pub mod Keeping
+pub mod Legality
+pub mod Moving
+pub mod PartWeights
+pub mod Parts
+pub mod Places
+pub mod Shown
+pub mod Since
+pub mod Sound
+pub mod Stretch
+pub mod Undamaged
+pub mod Ways

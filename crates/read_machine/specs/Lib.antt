@@ -1,0 +1,4 @@
+pub mod Courses
+pub mod Following
+pub mod Questions
+pub mod Readings
