@@ -6,6 +6,7 @@ mod dues;
 mod founds;
 mod machines;
 mod pairs;
+mod polling;
 mod settling;
 mod taking;
 
