@@ -4,9 +4,11 @@
 mod drives;
 mod untold_stores;
 
-pub use drives::{read_on, write_on};
+pub use drives::{merge_on, read_on, write_on};
 pub use untold_stores::UntoldStore;
 
+#[cfg(test)]
+mod merges;
 #[cfg(test)]
 mod scenes;
 #[cfg(test)]
