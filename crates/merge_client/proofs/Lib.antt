@@ -1,3 +1,4 @@
+pub mod Finding
 pub mod Light
 pub mod Moving
 pub mod Replied

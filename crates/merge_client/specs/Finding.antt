@@ -1,5 +1,5 @@
 -- Which pair of batches is due in a state, and what was got of it.
-use Rattle.std.specs.Prelude.{⊤, ℕ, ◌≡◌, Option, Some, None, List, ◌++◌}
+use Rattle.std.specs.Prelude.{ℕ, ◌≡◌, Option, Some, None, List, ◌++◌}
 use Rattle.std.specs.List.{slice_get}
 use Rattle.std.specs.Option.{option_map}
 use Rattle.update_core.specs.declared.updates.Update.{Update}
@@ -10,9 +10,8 @@ use Rattle.store_core.specs.Stores.{Stored}
 use Rattle.state_core.specs.declared.kinds.Kind.TheVariants.{Keeper}
 use Rattle.state_core.specs.Refusals.{is_keeper}
 use Rattle.state_core.specs.States.{ShardState}
-use Rattle.history_core.specs.Legal.{Absent, AtLast}
+use Rattle.history_core.specs.Legal.{Absent, AtLast, HasMember}
 use Rattle.history_core.specs.Placing.{AtLastScan, Placed}
-use Rattle.history_core.specs.Upkeep.{HasKeeper, NoneIsDue}
 use Rattle.read_machine.specs.declared.looks.Look.{Look}
 use Rattle.read_machine.specs.declared.looks.Look.TheVariants as looks
 use Rattle.read_machine.specs.Questions.{Questions}
@@ -54,10 +53,11 @@ places_in s = option_map with_next (due_place (weights_of s.batches))
 abbrev pub IsDueIn : Pair → ShardState → Type 0
 IsDueIn p s = found_by s p.rows (places_in s) ≡ founds.Due p
 
--- none was due, or this pair, in the last version at the last Scan, where the keeper stands; or it doesn't
+-- none was due, or this pair, in the last version at the last Scan, where the member stands; or it doesn't
 abbrev pub FoundLegal : ShardId → ℕ → Stored → List Placed → Found → Type 0
-FoundLegal shard member start ps (founds.Nothing version) = NoneIsDue start shard member version ps
-FoundLegal shard member start ps (founds.Due p) = AtLastScan shard (AtLast start shard (λ n s. HasKeeper member (λ m. ⊤) s × IsDueIn p s)) ps
+FoundLegal shard member start ps (founds.Nothing version) =
+    AtLastScan shard (AtLast start shard (λ n s. (n ≡ version) × HasMember member s × (places_in s ≡ None))) ps
+FoundLegal shard member start ps (founds.Due p) = AtLastScan shard (AtLast start shard (λ n s. HasMember member s × IsDueIn p s)) ps
 FoundLegal shard member start ps (founds.Gone version) = Absent start shard member version ps
 
 -- which pair is due, as a question
