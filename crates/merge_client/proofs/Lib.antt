@@ -1,3 +1,4 @@
+pub mod DueParts
 pub mod Finding
 pub mod Light
 pub mod Moving
