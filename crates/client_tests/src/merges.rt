@@ -110,8 +110,8 @@ fn append_two(alloc: Global, store: &mut UntoldStore) -> Result<(), Fail> {
     Ok(())
 }
 
-// The words and the calls of a compactor's whole life, over a store that has two batches and fails one call: an open, a merge, one
-// that finds nothing due, a renewal and a close.
+// The words and the calls of a compactor's whole life, over a store that has two batches and fails one call: an open, a
+// merge, one that finds nothing due, a renewal and a close.
 fn compactor_life(alloc: Global, faults: &[(u64, bool)]) -> Result<(String, String), Fail> {
     let mut store = store_failing(alloc, faults)?;
     append_two(alloc, &mut store)?;

@@ -1,5 +1,5 @@
 -- What is found of the pair that is due is legal. Entries go newest first.
-use Rattle.std.proofs.Common.{◌≡◌, ◌+◌, ◌*◌, ◌<◌, ◌++◌, inl, inr, ℕ, Option, Some, None, List, ◌∷◌, length, map, refl, sym, ap, subst, ◌∙◌, arith}
+use Rattle.std.proofs.Common.{◌≡◌, ◌+◌, ◌*◌, ◌<◌, ◌++◌, inl, inr, ℕ, Option, Some, None, List, length, refl, sym, ap, subst, ◌∙◌, arith}
 use Rattle.std.specs.Prelude.{⊤, nat_lt}
 use Rattle.std.specs.List.{slice_get}
 use Rattle.std.specs.Option.{option_map}
@@ -14,12 +14,10 @@ use Rattle.store_core.specs.declared.shards.ShardId.{ShardId}
 use Rattle.store_core.specs.declared.entries.Entry.{Entry}
 use Rattle.store_core.specs.Stores.{Stored}
 use Rattle.state_core.specs.States.{ShardState}
-use Rattle.history_core.specs.Legal.{Absent, AtLast, HasMember}
-use Rattle.history_core.specs.Placing.{Placed, placed}
+use Rattle.history_core.specs.Legal.{AtLast, HasMember}
 use Rattle.change_core.proofs.Members.{found_stands}
-use Rattle.read_machine.specs.declared.looks.Look.{Look}
 use Rattle.read_machine.specs.declared.looks.Look.TheVariants as looks
-use Rattle.read_machine.specs.Questions.{GotSince, ShownAt, since}
+use Rattle.read_machine.specs.Questions.{ShownAt, since}
 use Rattle.read_machine.proofs.Shown.{at_scan}
 use Rattle.merge_client.specs.declared.founds.Found.{Found}
 use Rattle.merge_client.specs.declared.founds.Found.TheVariants as founds
@@ -31,9 +29,15 @@ inside bs i h = elim ((slice_get_cases bs i).1) [ inl x ↦ (x.0, x.2) | inr x �
 
 -- the two batches at a place that is due are there
 there : (s : ShardState) (i : ℕ) → due_place (weights_of s.batches) ≡ Some i → i + 1 < length s.batches
-there s i e = let far = place_there (λ x y. nat_lt x (2 * y)) (weights_of s.batches) i e in omega (arith, far, length-map s.batches (λ (b : Batch). b.rows + 1))
+there s i e = let far = place_there (λ x y. nat_lt x (2 * y)) (weights_of s.batches) i e in omega (
+  arith,
+  far,
+  length-map
+      s.batches (λ (b : Batch). b.rows + 1),
+)
 
-module _ (client : ℕ) (shard : ShardId) (member calls : ℕ) (list : List Update) (start : Stored) (later : List Entry) (scan : Entry)
+module _ (client : ℕ) (shard : ShardId) (member calls : ℕ) (list : List Update) (start : Stored) (later : List Entry) (scan
+    : Entry)
     (before : List Entry) (s : ShardState) (at : ShownAt client shard member calls list start later scan before s) where
   abbrev Told : Found → Type 0
   Told found = FoundLegal shard member start (since client calls later scan before) found
@@ -43,7 +47,12 @@ module _ (client : ℕ) (shard : ShardId) (member calls : ℕ) (list : List Upda
 
   nothing_told : places_in s ≡ None → Told (founds.Nothing s.number)
   nothing_told none = at_scan client shard member calls list start later scan before s at
-      (AtLast start shard (λ n t. (n ≡ s.number) × HasMember member t × (places_in t ≡ None))) (s.number, s, at.last, (refl, stands, none))
+      (AtLast start shard (λ n t. (n ≡ s.number) × HasMember member t × (places_in t ≡ None))) (
+        s.number,
+        s,
+        at.last,
+        (refl, stands, none),
+      )
 
   due_told : (l r : Batch) (rows : List Update) → found_by s rows (places_in s) ≡ found_at s rows (Some l) (Some r) →
       Told (found_at s rows (Some l) (Some r))
@@ -67,11 +76,13 @@ module _ (client : ℕ) (shard : ShardId) (member calls : ℕ) (list : List Upda
           let (l, l_is) = inside s.batches i (omega (arith, far)) in
           let (r, r_is) = inside s.batches (i + 1) far in
           let bad : looks.Parts (l.parts ++ r.parts) ≡ looks.Answer found =
-              sym (ap (look_by s) at_both ∙ ap (λ (o : Option Batch). look_at s o (slice_get s.batches (i + 1))) l_is ∙ ap (look_at s (Some l)) r_is) ∙ e in
+          sym (ap (look_by s) at_both ∙ ap (λ (o : Option Batch). look_at s o (slice_get s.batches (i + 1))) l_is ∙ ap
+          (look_at s (Some l)) r_is) ∙ e in
           absurd (cc)
 
   -- what is answered from the rows of both
-  got_told : (keys : List PartKey) (rows : List Update) → look_by s (places_in s) ≡ looks.Parts keys → Told (found_by s rows (places_in s))
+  got_told : (keys : List PartKey) (rows : List Update) → look_by s (places_in s) ≡ looks.Parts keys →
+      Told (found_by s rows (places_in s))
   got_told keys rows e = go (places_in s) refl
     where
       both : (l r : Option Batch) → look_at s l r ≡ looks.Parts keys → found_by s rows (places_in s) ≡ found_at s rows l r →
@@ -81,7 +92,8 @@ module _ (client : ℕ) (shard : ShardId) (member calls : ℕ) (list : List Upda
       both (Some l) (Some r) h f = due_told l r rows f
 
       go : (o : Option (ℕ × ℕ)) → places_in s ≡ o → Told (found_by s rows (places_in s))
-      go None is = absurd (let bad : looks.Answer (founds.Nothing s.number) ≡ looks.Parts keys = sym (ap (look_by s) is) ∙ e in cc)
+      go None is = absurd (let bad : looks.Answer (founds.Nothing s.number) ≡ looks.Parts keys = sym (ap (look_by s) is) ∙
+          e in cc)
       go (Some p) is =
           let f = ap (found_by s rows) is in
           subst Told (sym f) (both (slice_get s.batches p.0) (slice_get s.batches p.1) (sym (ap (look_by s) is) ∙ e) f)

@@ -19,12 +19,10 @@ use Rattle.load_core.specs.declared.damages.Damage.TheVariants as damages
 use Rattle.load_core.specs.Getting as getting
 use Rattle.change_core.specs.Changes.{is_gone}
 use Rattle.read_machine.specs.declared.courses.Course.{Course}
-use Rattle.read_machine.specs.declared.looks.Look.{Look}
 use Rattle.read_machine.specs.declared.looks.Look.TheVariants as looks
 use Rattle.read_machine.specs.declared.readings.Reading.{Reading}
-use Rattle.read_machine.specs.declared.sights.Sight.{Sight}
 use Rattle.read_machine.specs.declared.sights.Sight.TheVariants as sights
-use Rattle.read_machine.specs.Courses.{MovesByFetched, counted, expired, holding, look_sight, member_sight, rows_by, sight_of, sight_poll}
+use Rattle.read_machine.specs.Courses.{MovesByFetched, counted, expired, holding, look_sight, member_sight, rows_by, sight_poll}
 use Rattle.read_machine.specs.Readings as readings
 use Rattle.read_machine.proofs.HowRead.{HowRead, unscanned, damaged, scanned, checked, got}
 use Rattle.read_machine.proofs.Keeping.{read_so}
@@ -38,12 +36,14 @@ abbrev pub IsLight : Poll Found → Type 0
 IsLight (polls.Done (founds.Due p)) = weight_of p.rows ≤ 2 ^ 62
 IsLight _ = ⊤
 
-both_light : (s : ShardState) (rows : List Update) (l r : Option Batch) → weight_of rows ≤ 2 ^ 62 → IsLight (polls.Done (found_at s rows l r))
+both_light : (s : ShardState) (rows : List Update) (l r : Option Batch) → weight_of rows ≤ 2 ^ 62 →
+    IsLight (polls.Done (found_at s rows l r))
 both_light s rows (Some l) (Some r) h = h
 both_light s rows (Some l) None h = tt
 both_light s rows None r h = tt
 
-found_light : (s : ShardState) (rows : List Update) (o : Option (ℕ × ℕ)) → weight_of rows ≤ 2 ^ 62 → IsLight (polls.Done (found_by s rows o))
+found_light : (s : ShardState) (rows : List Update) (o : Option (ℕ × ℕ)) → weight_of rows ≤ 2 ^ 62 →
+    IsLight (polls.Done (found_by s rows o))
 found_light s rows None h = tt
 found_light s rows (Some p) h = both_light s rows (slice_get s.batches p.0) (slice_get s.batches p.1) h
 
@@ -64,7 +64,8 @@ module _ (c : Course) (q : Due) (s : ShardState) where
   looked_light None = tt
   looked_light (Some p) = both_looked (slice_get s.batches p.0) (slice_get s.batches p.1)
 
-  taken_light : (b : Bool) → IsLight (sight_poll finding c q (if b then look_sight finding q s (look_by s (places_in s)) else sights.Strange))
+  taken_light : (b : Bool) → IsLight (sight_poll finding c q (if b then look_sight finding q s (look_by s (places_in s))
+      else sights.Strange))
   taken_light true = looked_light (places_in s)
   taken_light false = tt
 
@@ -103,7 +104,8 @@ module _ (old : Course) (q : Due) (reply : Reply) (new : Course) (poll : Poll Fo
   how_light (damaged vs damage st r e p n) = tells (polls.Damaged damage) p tt
   how_light (scanned vs s st r e by) = tells _ by.0 (seen_light (holding old s) q s (member_of old.member s.members))
   how_light (checked key vs s st r e p n) =
-      tells _ p (either_light (is_gone old.member (Some s)) (expired finding (holding old s) q) (polls.Damaged (damages.Missing key)) tt tt)
+      tells _ p (either_light (is_gone old.member (Some s)) (expired finding (holding old s) q) (polls.Damaged
+      (damages.Missing key)) tt tt)
   how_light (got g f st m how by) = fetched_light g f by
 
 -- what a reading comes to
@@ -111,4 +113,5 @@ pub read_light : (m new : Reading Due) (reply : Reply) (poll : Poll Found) → r
     readings.IsSound finding new → IsLight poll
 read_light m new reply poll moves sound =
     let x = read_so finding m new reply poll moves in
-    how_light (counted m.course) x.q reply x.course poll (subst (λ (r : Reading Due). getting.IsSound r.course.getting) x.now sound.getting) x.how
+    how_light (counted m.course) x.q reply x.course poll (subst (λ (r : Reading Due). getting.IsSound r.course.getting)
+    x.now sound.getting) x.how

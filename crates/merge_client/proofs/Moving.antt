@@ -13,11 +13,13 @@ use Rattle.merge_client.specs.Merging.{IsOpen, MovesAfterTry, after_poll, verdic
 
 -- what a reply to a call of a transition comes to
 pub tried_moves : (old : Compactor) (reply : Reply) (s : Storing) (tried : Tried) (poll : Poll MergeAnswer) → IsOpen old →
-    storing.Moves old.storing reply s tried → IfSome old.asked (λ asked. poll ≡ verdict (record old { storing = s }) asked tried) →
+    storing.Moves old.storing reply s tried → IfSome old.asked (λ asked. poll ≡ verdict (record old { storing = s }) asked
+    tried) →
     MovesAfterTry old reply (after_poll (record old { storing = s }) poll) poll
 tried_moves old reply s tried poll is_open moves told = go old.asked refl is_open told
   where
-    go : (a : Option Asked) → old.asked ≡ a → IsSome a → IfSome a (λ asked. poll ≡ verdict (record old { storing = s }) asked tried) →
+    go : (a : Option Asked) → old.asked ≡ a → IsSome a → IfSome a (λ asked. poll ≡ verdict (record old { storing = s })
+        asked tried) →
         MovesAfterTry old reply (after_poll (record old { storing = s }) poll) poll
     go None e some h = absurd (let bad : false ≡ true = some in cc)
     go (Some asked) e some h = (s, tried, asked, moves, e, h, refl)

@@ -1,5 +1,5 @@
 -- What a poll comes to by the reply to its call: never Busy, and Fault only where the call failed.
-use Rattle.std.proofs.Common.{◌≡◌, ◌==◌, ◌&&◌, ℕ, Bool, Option, Some, None, Result, Ok, Err, inl, inr, refl, sym, ap, subst, ◌∙◌}
+use Rattle.std.proofs.Common.{◌≡◌, ◌==◌, ◌&&◌, ℕ, Option, Some, None, Result, Ok, Err, inl, inr, refl, sym, subst}
 use Rattle.std.specs.Prelude.{⊤, IfOk, OnErr}
 use Rattle.std.specs.declared.alloc.AllocError.{AllocError}
 use Rattle.store_core.specs.declared.replies.Reply.{Reply}
@@ -49,8 +49,13 @@ refused_fits c r refusals.NotPresent = tt
 refused_fits c r refusals.NoMember = tt
 refused_fits c r other = tt
 
-token_fits : (c : Compactor) (r : Reply) (refusal : Refusal) → Fits r (merge_poll c (token_outcome c.storing.trying.failed c.token refusal))
-token_fits c r (refusals.TokenOld last) = elim (bool_cases ((last == c.token) && c.storing.trying.failed)) [ inl h ↦ rw h tt | inr h ↦ rw h tt ]
+token_fits : (c : Compactor) (r : Reply) (refusal : Refusal) → Fits r (merge_poll c (token_outcome c.storing.trying.failed
+    c.token refusal))
+token_fits c r (refusals.TokenOld last) = elim (bool_cases ((last == c.token) && c.storing.trying.failed)) [
+  | inl h ↦ rw h
+      tt
+  | inr h ↦ rw h tt
+]
 token_fits c r refusals.NotPresent = tt
 token_fits c r refusals.NoMember = tt
 token_fits c r other = tt
@@ -69,12 +74,14 @@ module _ (c : Compactor) (r : Reply) where
   -- by what comes of a change
   change_fits : (asked : Asked) (tried : Tried) → (tried ≡ tries.Fault → r ≡ replies.Failed) →
       Fits r (change_poll c asked (outcome c.storing.trying (own_member c) tried))
-  change_fits asked (tries.Committed version) f = committed_as (λ o. Fits r (change_poll c asked o)) c.storing.trying.loader.cached c.storing.trying.step version tt tt
+  change_fits asked (tries.Committed version) f = committed_as (λ o. Fits r (change_poll c asked o))
+      c.storing.trying.loader.cached c.storing.trying.step version tt tt
   change_fits asked tries.Begun f = tt
   change_fits asked tries.Again f = tt
   change_fits asked tries.Goes f = tt
   change_fits asked tries.Fault f = f refl
-  change_fits asked (tries.Refused refusal) f = refused_as (λ o. Fits r (change_poll c asked o)) c.storing.trying.loader.cached (own_member c)
+  change_fits asked (tries.Refused refusal) f = refused_as (λ o. Fits r (change_poll c asked o))
+      c.storing.trying.loader.cached (own_member c)
       c.storing.trying.step refusal tt (λ v. tt) (λ v. tt) (λ v. tt) (λ v. tt)
   change_fits asked tries.Spent f = tt
   change_fits asked (tries.Damaged damage) f = tt
@@ -96,7 +103,8 @@ ended_fits r (polls.Done (founds.Due p)) e = tt
 ended_fits r (polls.Done (founds.Gone version)) e = tt
 
 read_fits : (m new : Reading Due) (r : Reply) (p : Poll Found) → readings.Moves finding m r new p → Fits r (read_poll p)
-read_fits m new r p moves = let x = read_so finding m new r p moves in so (comes finding (counted m.course) x.q r x.course p x.how)
+read_fits m new r p moves = let x = read_so finding m new r p moves in so (comes finding (counted m.course) x.q r x.course
+    p x.how)
   where
     so : Comes {A = Found} r p → Fits r (read_poll p)
     so (goes answer e) = subst (λ (z : Poll Found). Fits r (read_poll z)) (sym e) tt
@@ -109,7 +117,9 @@ pub moved_fits : (old new : Compactor) (r : Reply) (poll : Poll MergeAnswer) →
 moved_fits old new r poll moves = go old.reading.asked moves
   where
     by_try : MovesAfterTry old r new poll → Fits r poll
-    by_try (s, tried, asked, m, asked_is, poll_is, new_is) = subst (Fits r) (sym poll_is) (verdict_fits (record old { storing = s }) r asked tried
+    by_try (s, tried, asked, m, asked_is, poll_is, new_is) = subst (Fits r) (sym poll_is) (verdict_fits (record old {
+      storing = s;
+    }) r asked tried
         (λ e. fault_failed old.storing s r (subst (λ (t : Tried). storing.Moves old.storing r s t) e m)))
 
     by_read : MovesAfterRead old r new poll → Fits r poll
@@ -121,11 +131,13 @@ moved_fits old new r poll moves = go old.reading.asked moves
 
 -- ---- a poll
 
-module _ (client : ℕ) (front front_now : Option History) (old ready new : Compactor) (turn : Turn) (r : Reply) (prepares : Prepares old ready)
+module _ (client : ℕ) (front front_now : Option History) (old ready new : Compactor) (turn : Turn) (r : Reply) (prepares :
+    Prepares old ready)
     (sound : IsReady ready) (is : turn ≡ turns.Reply r) (asks : Asks client front front_now ready turn) where
   called : Called client front front_now old ready r
   called =
-      let a : Asks client front front_now ready (turns.Reply r) = subst (λ (t : Turn). Asks client front front_now ready t) is asks in
+      let a : Asks client front front_now ready (turns.Reply r) = subst (λ (t : Turn). Asks client front front_now ready t)
+      is asks in
       record { prepares = prepares; sound = sound; call = a.call; call_is = a.call_is; gains = a.sees }
 
   calls_one : (p : Poll MergeAnswer) → Moves ready r new p → Calls client front front_now old new p
@@ -156,13 +168,15 @@ module _ (client : ℕ) (front front_now : Option History) (old ready new : Comp
   unpolled (Err e) wants = inr (record { ready = ready; reply = r; called = called; wants = wants })
 
 -- a poll that has a reply isn't Busy
-pub not_busy : (ready new : Compactor) (r : Reply) (result : Result (Poll MergeAnswer) AllocError) → IfOk result (λ poll. Moves ready r new poll) →
+pub not_busy : (ready new : Compactor) (r : Reply) (result : Result (Poll MergeAnswer) AllocError) →
+    IfOk result (λ poll. Moves ready r new poll) →
     result ≡ Ok polls.Busy → ⊥
 not_busy ready new r (Err e) m b = let bad : Err e ≡ Ok polls.Busy = b in cc
 not_busy ready new r (Ok poll) m b = subst (Fits r) (let is : poll ≡ polls.Busy = cc in is) (moved_fits ready new r poll m)
 
 -- and is Fault only where the call failed
-pub failed_so : (ready new : Compactor) (r : Reply) (result : Result (Poll MergeAnswer) AllocError) → IfOk result (λ poll. Moves ready r new poll) →
+pub failed_so : (ready new : Compactor) (r : Reply) (result : Result (Poll MergeAnswer) AllocError) →
+    IfOk result (λ poll. Moves ready r new poll) →
     result ≡ Ok polls.Fault → r ≡ replies.Failed
 failed_so ready new r (Err e) m b = absurd (let bad : Err e ≡ Ok polls.Fault = b in cc)
 failed_so ready new r (Ok poll) m b = subst (Fits r) (let is : poll ≡ polls.Fault = cc in is) (moved_fits ready new r poll m)

@@ -1,14 +1,11 @@
 -- What a compactor holds besides any history stays so.
-use Rattle.std.proofs.Common.{◌≡◌, ◌≤◌, ◌^◌, ℕ, Bool, true, false, Option, Some, None, refl, sym, ap, subst, ◌∙◌}
+use Rattle.std.proofs.Common.{◌≡◌, ◌≤◌, ℕ, Bool, true, false, Option, Some, None, refl, sym, ap, subst, ◌∙◌}
 use Rattle.std.specs.Prelude.{⊤, IsSome, IfSome}
-use Rattle.update_core.specs.Updates.{weight_of}
 use Rattle.store_core.specs.declared.replies.Reply.{Reply}
 use Rattle.state_core.specs.VersionReading.{most}
-use Rattle.state_core.specs.declared.refusals.Refusal.{Refusal}
 use Rattle.history_core.specs.declared.asked.Asked.{Asked}
 use Rattle.history_core.specs.declared.asked.Asked.TheVariants as asks
 use Rattle.history_core.specs.declared.merge_answers.MergeAnswer.{MergeAnswer}
-use Rattle.load_core.specs.declared.damages.Damage.{Damage}
 use Rattle.load_core.specs.declared.polls.Poll.{Poll}
 use Rattle.load_core.specs.declared.polls.Poll.TheVariants as polls
 use Rattle.load_core.specs.declared.readies.Ready.{Ready}
@@ -34,7 +31,7 @@ use Rattle.merge_client.specs.declared.founds.Found.{Found}
 use Rattle.merge_client.specs.declared.founds.Found.TheVariants as founds
 use Rattle.merge_client.specs.declared.pairs.Pair.{Pair}
 use Rattle.merge_client.specs.Finding.{finding}
-use Rattle.merge_client.specs.Merging.{IsGot, IsIdle, IsLent, IsReady, IsSound, Moves, MovesAfterRead, MovesAfterTry, MovesBy, after_poll, member_after, pair_of, read_poll, reading_on, taken_back, verdict}
+use Rattle.merge_client.specs.Merging.{IsGot, IsIdle, IsLent, IsReady, IsSound, Moves, MovesAfterRead, MovesAfterTry, MovesBy, after_poll, member_after, read_poll, reading_on, taken_back, verdict}
 use Rattle.merge_client.proofs.Light.{read_light}
 
 -- ---- what a poll leaves
@@ -64,7 +61,8 @@ if_seen None P Q f h = tt
 if_seen (Some member) P Q f h = f h
 
 -- where nothing is read and no pair is got, what a poll leaves is sound
-rest_sound : (c : Compactor) (poll : Poll MergeAnswer) → storing.IsSound c.storing → readings.IsSound finding c.reading → c.reading.asked ≡ None →
+rest_sound : (c : Compactor) (poll : Poll MergeAnswer) → storing.IsSound c.storing → readings.IsSound finding c.reading →
+    c.reading.asked ≡ None →
     c.pair ≡ None → c.token ≤ most → IfSome c.member (λ m. IsSome c.storing.trying.loader.cached) →
     ((answer : MergeAnswer) → poll ≡ polls.Done answer → IsSome c.storing.trying.loader.cached) → IsSound (after_poll c poll)
 rest_sound c poll s g unread none token seen known = go poll refl
@@ -98,13 +96,15 @@ IsOver (tries.Refused refusal) = ⊤
 IsOver tries.Spent = ⊤
 IsOver _ = ⊥
 
-over_known : (old t : Trying) (reply : Reply) (tried : Tried) → IsOver tried → trying.Moves old reply t tried → IsSome t.loader.cached
+over_known : (old t : Trying) (reply : Reply) (tried : Tried) → IsOver tried → trying.Moves old reply t tried →
+    IsSome t.loader.cached
 over_known old t reply tried over moves = go (how_moved old t reply tried moves)
   where
     by : (z : Trying) → t ≡ z → IsSome z.loader.cached → IsSome t.loader.cached
     by z e h = subst (λ (y : Trying). IsSome y.loader.cached) (sym e) h
 
-    comes : (k : Tried) → IsOver k → (vs : _) → trying.ComesTo (newest_after old.loader.shard old.loader.cached vs) (trying.called old) t k → IsSome t.loader.cached
+    comes : (k : Tried) → IsOver k → (vs : _) → trying.ComesTo (newest_after old.loader.shard old.loader.cached vs)
+        (trying.called old) t k → IsSome t.loader.cached
     comes (tries.Refused refusal) o vs (s, reads, refused, now) = by _ now refl
     comes tries.Spent o vs (s, reads, free, last, now) = by _ now refl
     comes (tries.Committed version) o vs m = absurd m
@@ -114,7 +114,8 @@ over_known old t reply tried over moves = go (how_moved old t reply tried moves)
     comes tries.Again o vs m = absurd o
     comes tries.Fault o vs m = absurd o
 
-    cas : (rd : Ready) (k : Tried) → IsOver k → trying.MovesAfterCas (trying.asked (trying.called old) rd) rd reply t k → IsSome t.loader.cached
+    cas : (rd : Ready) (k : Tried) → IsOver k → trying.MovesAfterCas (trying.asked (trying.called old) rd) rd reply t k →
+        IsSome t.loader.cached
     cas rd (tries.Committed version) o (answer, some, now) = by _ now refl
     cas rd (tries.Refused refusal) o m = absurd m
     cas rd tries.Spent o m = absurd m
@@ -129,7 +130,8 @@ over_known old t reply tried over moves = go (how_moved old t reply tried moves)
     go (try_failed idle answer is now) = absurd (subst IsOver is over)
     go (try_cased rd next m) = cas rd tried over m
 
-stored_known : (old s : Storing) (reply : Reply) (tried : Tried) → IsOver tried → storing.Moves old reply s tried → IsSome s.trying.loader.cached
+stored_known : (old s : Storing) (reply : Reply) (tried : Tried) → IsOver tried → storing.Moves old reply s tried →
+    IsSome s.trying.loader.cached
 stored_known old s reply tried over moves =
     let (unset, (t, m, n)) = tried_way old s reply tried moves (λ e. subst IsOver e over) (λ e. subst IsOver e over) in
     subst (λ (z : Storing). IsSome z.trying.loader.cached) (sym n) (over_known old.trying t reply tried over m)
@@ -169,15 +171,19 @@ done_over c asked (tries.Damaged damage) h = absurd (go asked h)
     go asks.Merge e = let bad : false ≡ true = e in cc
     go other e = let bad : false ≡ true = e in cc
 
-try_sound : (old new : Compactor) (reply : Reply) (poll : Poll MergeAnswer) → IsReady old → storing.IsSound new.storing → old.reading.asked ≡ None →
+try_sound : (old new : Compactor) (reply : Reply) (poll : Poll MergeAnswer) → IsReady old → storing.IsSound new.storing →
+    old.reading.asked ≡ None →
     MovesAfterTry old reply new poll → IsSound new
 try_sound old new reply poll ready sound unread (s, tried, asked, moves, asked_is, poll_is, new_is) =
-    subst IsSound (sym new_is) (rest_sound (record old { storing = s }) poll s_sound ready.sound.reading unread ready.drafted ready.sound.token
-    (if_seen old.member (IsSome old.storing.trying.loader.cached) (IsSome s.trying.loader.cached) (still_seen old.storing s reply tried moves)
+    subst IsSound (sym new_is) (rest_sound (record old { storing = s }) poll s_sound ready.sound.reading unread
+    ready.drafted ready.sound.token
+    (if_seen old.member (IsSome old.storing.trying.loader.cached) (IsSome s.trying.loader.cached) (still_seen old.storing s
+    reply tried moves)
     (ready.sound.seen unread)) known)
   where
     s_sound : storing.IsSound s
-    s_sound = subst storing.IsSound (kept_storing (record old { storing = s }) poll) (subst (λ (c : Compactor). storing.IsSound c.storing) new_is sound)
+    s_sound = subst storing.IsSound (kept_storing (record old { storing = s }) poll) (subst (λ (c : Compactor).
+        storing.IsSound c.storing) new_is sound)
 
     known : (answer : MergeAnswer) → poll ≡ polls.Done answer → IsSome s.trying.loader.cached
     known answer e = stored_known old.storing s reply tried (done_over (record old { storing = s }) asked tried
@@ -188,12 +194,19 @@ try_sound old new reply poll ready sound unread (s, tried, asked, moves, asked_i
 lent_by : (c : Compactor) (q : Due) → IsSound c → c.reading.asked ≡ Some q → IsLent c
 lent_by c q s e = subst (λ (o : Option Due). IfSome o (λ q. IsLent c)) e s.lent
 
-idle_on : (s : Storing) (calls : ℕ) (loader : _) → IsIdle s → IsIdle (record s { trying = record s.trying { calls = calls; loader = loader } })
+idle_on : (s : Storing) (calls : ℕ) (loader : _) → IsIdle s → IsIdle (record s {
+  trying = record s.trying {
+    calls = calls;
+    loader = loader;
+  };
+})
 idle_on s calls loader h = ap (λ (z : Storing). record z { trying = record z.trying { calls = calls; loader = loader } }) h
 
 -- a reading that goes on
-on_sound : (old : Compactor) (q : Due) (r : Reading Due) → IsReady old → old.reading.asked ≡ Some q → storing.IsSound (reading_on old r).storing →
-    readings.IsSound finding r → r.asked ≡ Some q → r.course.loader.shard ≡ old.reading.course.loader.shard → IsSound (reading_on old r)
+on_sound : (old : Compactor) (q : Due) (r : Reading Due) → IsReady old → old.reading.asked ≡ Some q →
+    storing.IsSound (reading_on old r).storing →
+    readings.IsSound finding r → r.asked ≡ Some q → r.course.loader.shard ≡ old.reading.course.loader.shard →
+    IsSound (reading_on old r)
 on_sound old q r ready ask sound g asked shard =
     let lent = lent_by old q ready.sound ask in
     record {
@@ -210,7 +223,8 @@ on_sound old q r ready ask sound g asked shard =
       seen = λ none. absurd (let bad : Some q ≡ None = sym asked ∙ none in cc);
     }
 
-read_sound : (old new : Compactor) (q : Due) (reply : Reply) (poll : Poll MergeAnswer) → IsReady old → storing.IsSound new.storing →
+read_sound : (old new : Compactor) (q : Due) (reply : Reply) (poll : Poll MergeAnswer) → IsReady old →
+    storing.IsSound new.storing →
     readings.IsSound finding new.reading → old.reading.asked ≡ Some q → MovesAfterRead old reply new poll → IsSound new
 read_sound old new q reply poll ready sound g ask (r, read, moves, poll_is, new_is) = subst IsSound (sym now) (by read refl)
   where
@@ -241,19 +255,23 @@ read_sound old new q reply poll ready sound g ask (r, read, moves, poll_is, new_
     none_at : (p : Poll Found) → read ≡ p → Ends p → r.asked ≡ None
     none_at p e ends = ended_none finding old.reading r reply read moves (subst Ends (sym e) ends)
 
-    goes : (p : Poll Found) → read ≡ p → GoesOn p → storing.IsSound (reading_on old r).storing → readings.IsSound finding r → IsSound (reading_on old r)
+    goes : (p : Poll Found) → read ≡ p → GoesOn p → storing.IsSound (reading_on old r).storing →
+        readings.IsSound finding r → IsSound (reading_on old r)
     goes p e on s_on g_on = on_sound old q r ready ask s_on g_on
-        (ap (λ (k : readings.ReadKept Due). k.asked) (read_kept finding old.reading r reply read moves (subst GoesOn (sym e) on)) ∙ ask) stays.shard
+        (ap (λ (k : readings.ReadKept Due). k.asked) (read_kept finding old.reading r reply read moves (subst GoesOn (sym
+        e) on)) ∙ ask) stays.shard
 
     over : (p : Poll Found) → read ≡ p → Ends p → (taken_back (reading_on old r) p).pair ≡ None →
-        storing.IsSound (taken_back (reading_on old r) p).storing → readings.IsSound finding (taken_back (reading_on old r) p).reading →
+        storing.IsSound (taken_back (reading_on old r) p).storing → readings.IsSound finding (taken_back (reading_on old r)
+        p).reading →
         (taken_back (reading_on old r) p).reading.asked ≡ r.asked → (taken_back (reading_on old r) p).token ≡ old.token →
         (taken_back (reading_on old r) p).storing.trying.loader.cached ≡ r.course.loader.cached → IsSound (at p)
     over p e ends none s_p g_p asked token cached =
         let has : IsSome (taken_back (reading_on old r) p).storing.trying.loader.cached = subst IsSome (sym cached) some in
         rest_sound (taken_back (reading_on old r) p) (read_poll p) s_p g_p (asked ∙ none_at p e ends) none
         (subst (λ (n : ℕ). n ≤ most) (sym token) ready.sound.token)
-        (if_any (taken_back (reading_on old r) p).member (IsSome (taken_back (reading_on old r) p).storing.trying.loader.cached) has) (λ answer h. has)
+        (if_any (taken_back (reading_on old r) p).member (IsSome (taken_back (reading_on old r)
+        p).storing.trying.loader.cached) has) (λ answer h. has)
 
     -- a pair that was got
     due : (p : Pair) → read ≡ polls.Done (founds.Due p) → IsSound (at (polls.Done (founds.Due p)))
@@ -287,11 +305,14 @@ read_sound old new q reply poll ready sound g ask (r, read, moves, poll_is, new_
     by polls.More e = goes polls.More e tt (s_at polls.More e) (g_at polls.More e)
     by polls.Fault e = goes polls.Fault e tt (s_at polls.Fault e) (g_at polls.Fault e)
     by polls.Spent e = over polls.Spent e tt ready.drafted (s_at polls.Spent e) (g_at polls.Spent e) refl refl refl
-    by (polls.Damaged damage) e = over (polls.Damaged damage) e tt ready.drafted (s_at (polls.Damaged damage) e) (g_at (polls.Damaged damage) e) refl refl refl
+    by (polls.Damaged damage) e = over (polls.Damaged damage) e tt ready.drafted (s_at (polls.Damaged damage) e) (g_at
+        (polls.Damaged damage) e) refl refl refl
     by (polls.Done (founds.Nothing version)) e =
-        over (polls.Done (founds.Nothing version)) e tt refl (s_at (polls.Done (founds.Nothing version)) e) (g_at (polls.Done (founds.Nothing version)) e) refl refl refl
+        over (polls.Done (founds.Nothing version)) e tt refl (s_at (polls.Done (founds.Nothing version)) e) (g_at
+        (polls.Done (founds.Nothing version)) e) refl refl refl
     by (polls.Done (founds.Gone version)) e =
-        over (polls.Done (founds.Gone version)) e tt refl (s_at (polls.Done (founds.Gone version)) e) (g_at (polls.Done (founds.Gone version)) e) refl refl refl
+        over (polls.Done (founds.Gone version)) e tt refl (s_at (polls.Done (founds.Gone version)) e) (g_at (polls.Done
+        (founds.Gone version)) e) refl refl refl
     by (polls.Done (founds.Due p)) e = due p e
 
 -- ---- after each reply
@@ -305,8 +326,10 @@ moved_sound old new reply poll ready s g moves = go old.reading.asked refl moves
     go (Some q) e m = read_sound old new q reply poll ready s g e m
 
 -- after it has settled by a poll
-pub settled_sound : (old mid new : Compactor) (reply : Reply) (poll : Poll MergeAnswer) → IsReady old → storing.IsSound mid.storing →
+pub settled_sound : (old mid new : Compactor) (reply : Reply) (poll : Poll MergeAnswer) → IsReady old →
+    storing.IsSound mid.storing →
     readings.IsSound finding mid.reading → Moves old reply (after_poll mid poll) poll → new ≡ after_poll mid poll → IsSound new
 settled_sound old mid new reply poll ready s g moves e =
-    subst IsSound (sym e) (moved_sound old (after_poll mid poll) reply poll ready (subst storing.IsSound (sym (kept_storing mid poll)) s)
+    subst IsSound (sym e) (moved_sound old (after_poll mid poll) reply poll ready (subst storing.IsSound (sym (kept_storing
+    mid poll)) s)
     (subst (readings.IsSound finding) (sym (kept_reading mid poll)) g) moves)

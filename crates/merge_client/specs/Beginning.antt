@@ -42,7 +42,11 @@ Merging old new =
       asked = Some asks.Merge;
       token = old.token + 1;
       storing = begun (unknown (shard_of old)) Init no_parts;
-      reading = record { course = courses.begun old.reading.course.getting old.storing.trying.loader member; asked = Some (record {}) };
+      reading = record {
+        course = courses.begun old.reading.course.getting old.storing.trying.loader member;
+        asked = Some
+            (record {});
+      };
     })
 
 -- a compactor with a change of its member begun

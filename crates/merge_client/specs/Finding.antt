@@ -57,7 +57,8 @@ IsDueIn p s = found_by s p.rows (places_in s) ≡ founds.Due p
 abbrev pub FoundLegal : ShardId → ℕ → Stored → List Placed → Found → Type 0
 FoundLegal shard member start ps (founds.Nothing version) =
     AtLastScan shard (AtLast start shard (λ n s. (n ≡ version) × HasMember member s × (places_in s ≡ None))) ps
-FoundLegal shard member start ps (founds.Due p) = AtLastScan shard (AtLast start shard (λ n s. HasMember member s × IsDueIn p s)) ps
+FoundLegal shard member start ps (founds.Due p) = AtLastScan shard (AtLast start shard (λ n s. HasMember member s × IsDueIn
+    p s)) ps
 FoundLegal shard member start ps (founds.Gone version) = Absent start shard member version ps
 
 -- which pair is due, as a question

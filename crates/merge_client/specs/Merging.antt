@@ -1,5 +1,5 @@
 -- A compactor: what it does next, and what a reply makes of it.
-use Rattle.std.specs.Prelude.{⊤, ◌≡◌, ℕ, ◌≤◌, ◌^◌, Option, Some, None, IsSome, IfSome, unwrap_or, []}
+use Rattle.std.specs.Prelude.{◌≡◌, ℕ, ◌≤◌, ◌^◌, Option, Some, None, IsSome, IfSome, unwrap_or, []}
 use Rattle.update_core.specs.Updates.{weight_of}
 use Rattle.store_core.specs.declared.shards.ShardId.{ShardId}
 use Rattle.store_core.specs.declared.calls.Call.{Call}
@@ -127,7 +127,8 @@ PreparesTry old from new = (s : Storing) × storing.Prepares from s × (new ≡ 
 abbrev pub PreparesPair : Compactor → Option Pair → Compactor → Type 0
 PreparesPair old None new = PreparesTry old old.storing new
 PreparesPair old (Some p) new =
-    (d : MergeDraft) × IsDraft (owner old) p.left p.right p.since p.rows d × PreparesTry old (resumed old.storing d.step d.setting) new
+    (d : MergeDraft) × IsDraft (owner old) p.left p.right p.since p.rows d × PreparesTry old (resumed old.storing d.step
+    d.setting) new
 
 abbrev pub PreparesBy : Compactor → Option Due → Compactor → Type 0
 PreparesBy old None new = PreparesPair old old.pair new
@@ -216,7 +217,12 @@ MovesAfterTry old reply new poll =
 -- one more call was made, and the reading stands so
 abbrev pub reading_on : Compactor → Reading Due → Compactor
 reading_on c r =
-    record c { storing = record c.storing { trying = record c.storing.trying { calls = trying.more c.storing.trying.calls } }; reading = r }
+    record c {
+      storing = record c.storing {
+        trying = record c.storing.trying { calls = trying.more c.storing.trying.calls };
+      };
+      reading = r;
+    }
 
 -- the newest state is the transition's again
 abbrev pub given_back : Compactor → Compactor

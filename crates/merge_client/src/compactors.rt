@@ -18,13 +18,13 @@ use std::alloc::Global;
 use store_core::{BytesList, ShardId};
 use token_machine::Storing;
 
-/// A compactor of one shard. It joins as a member with a lease when it is opened, merges the pair of batches that is due each time it
-/// is asked to, under a token of its own, and leaves when it is closed. A command is begun and then polled until it ends; each poll
-/// makes at most one call of the store. See docs/DEFINITIONS.md, "Compactors".
+/// A compactor of one shard. It joins as a member with a lease when it is opened, merges the pair of batches that is due each
+/// time it is asked to, under a token of its own, and leaves when it is closed. A command is begun and then polled until it
+/// ends; each poll makes at most one call of the store. See docs/DEFINITIONS.md, "Compactors".
 #[derive(Drop)]
 pub struct Compactor {
-    /// The transition and the parts of the open or the last command, the newest state that was seen while nothing is read, and the
-    /// count of calls.
+    /// The transition and the parts of the open or the last command, the newest state that was seen while nothing is read,
+    /// and the count of calls.
     pub(crate) storing: Storing,
     /// The member that it joined as, until it has left or was found to be gone.
     pub(crate) member: Option<u64>,
@@ -39,8 +39,8 @@ pub struct Compactor {
 }
 
 impl Compactor {
-    /// A compactor of the shard whose open has begun: it is to be polled until it has joined. Its lease begins at the moment `now` and
-    /// runs out at `now + lease`, unless it is renewed. It takes no memory.
+    /// A compactor of the shard whose open has begun: it is to be polled until it has joined. Its lease begins at the moment
+    /// `now` and runs out at `now + lease`, unless it is renewed. It takes no memory.
     pub fn open(alloc: Global, shard: ShardId, now: u64, lease: u64) -> Compactor
         ensures opened { result ≡ opened shard now lease }
         ensures sound { IsSound result }
@@ -104,9 +104,9 @@ impl Compactor {
         self.asked = Some(asked);
     }
 
-    /// Begins to merge the pair that is due in the state that a first scan will show, under the next token. The fault is the first of
-    /// Gone (the open ended without Opened, the close is done, or the compactor has answered Expired), Open (a command is open) or
-    /// TokensSpent; the compactor is then as it was. It takes no memory, as the other beginnings.
+    /// Begins to merge the pair that is due in the state that a first scan will show, under the next token. The fault is the
+    /// first of Gone (the open ended without Opened, the close is done, or the compactor has answered Expired), Open (a
+    /// command is open) or TokensSpent; the compactor is then as it was. It takes no memory, as the other beginnings.
     pub fn begin_merge(&mut self, alloc: Global) -> Result<(), BeginFault>
         requires { IsSound self.old }
         ensures begins { Begins (merge_fault self.old) self.old self.new (Merging self.old) result }
