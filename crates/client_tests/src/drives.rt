@@ -1,7 +1,9 @@
 // Polls of one client's command.
+ghost use Rattle.merge_client.specs.Merging.{IsSound as IsSoundCompactor};
 ghost use Rattle.read_client.specs.Reading.{IsSound as IsSoundReader};
 ghost use Rattle.write_client.specs.Writing.{IsSound as IsSoundWriter};
 
+use merge_client::{Compactor, MergeAnswer};
 use read_client::{Poll, ReadAnswer, Reader};
 use std::alloc::{AllocError, Global};
 use store_core::DirectPort;
@@ -52,6 +54,32 @@ pub fn read_on(
             break;
         }
         let poll = reader.poll(alloc, &mut DirectPort::new(store, client))?;
+        let over = !matches!(&poll, Poll::More);
+        last = Some(poll);
+        if over {
+            break;
+        }
+    }
+    Ok(last)
+}
+
+/// The same of a compactor.
+pub fn merge_on(
+    alloc: Global,
+    compactor: &mut Compactor,
+    store: &mut UntoldStore,
+    client: u64,
+    polls: u64,
+) -> Result<Option<Poll<MergeAnswer>>, AllocError>
+    requires { IsSoundCompactor compactor.old }
+    ensures { IsSoundCompactor compactor.new }
+{
+    let mut last = None;
+    for _ in 0..polls {
+        if !compactor.busy() {
+            break;
+        }
+        let poll = compactor.poll(alloc, &mut DirectPort::new(store, client))?;
         let over = !matches!(&poll, Poll::More);
         last = Some(poll);
         if over {

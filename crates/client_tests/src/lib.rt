@@ -3,8 +3,10 @@
 
 mod drives;
 
-pub use drives::{read_on, write_on};
+pub use drives::{merge_on, read_on, write_on};
 
+#[cfg(test)]
+mod merges;
 #[cfg(test)]
 mod scenes;
 #[cfg(test)]

@@ -1,0 +1,4 @@
+pub mod Beginning
+pub mod Finding
+pub mod Merging
+pub mod Polling

@@ -1,0 +1,15 @@
+//! A compactor of a shard: a client that joins, merges batches that are due, renews its lease and leaves.
+#![tactic(auto)]
+
+mod compactors;
+mod dues;
+mod founds;
+mod machines;
+mod pairs;
+mod polling;
+mod settling;
+mod taking;
+
+pub use compactors::Compactor;
+pub use history_core::{Asked, MergeAnswer};
+pub use load_core::{BeginFault, Damage, Poll};
