@@ -8,6 +8,7 @@ use crate::{merge_on, write_on};
 use merge_client::{BeginFault, Compactor, MergeAnswer, Poll};
 use std::alloc::Global;
 use std::test::Fail;
+use test_stores::UntoldStore;
 use update_core::Frontier;
 
 fn answer_word(answer: MergeAnswer) -> (&'static str, u64) {

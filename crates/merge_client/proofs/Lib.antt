@@ -1,3 +1,4 @@
+pub mod Comes
 pub mod DueParts
 pub mod Finding
 pub mod Light

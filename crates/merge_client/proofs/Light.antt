@@ -25,7 +25,7 @@ use Rattle.read_machine.specs.declared.sights.Sight.TheVariants as sights
 use Rattle.read_machine.specs.Courses.{MovesByFetched, counted, expired, holding, look_sight, member_sight, rows_by, sight_poll}
 use Rattle.read_machine.specs.Readings as readings
 use Rattle.read_machine.proofs.HowRead.{HowRead, unscanned, damaged, scanned, checked, got}
-use Rattle.read_machine.proofs.Keeping.{read_so}
+use Rattle.read_machine.proofs.Replied.{read_so}
 use Rattle.merge_client.specs.declared.dues.Due.{Due}
 use Rattle.merge_client.specs.declared.founds.Found.{Found}
 use Rattle.merge_client.specs.declared.founds.Found.TheVariants as founds

@@ -22,8 +22,8 @@ use Rattle.change_core.proofs.Forms.{committed_as, refused_as}
 use Rattle.read_machine.specs.declared.readings.Reading.{Reading}
 use Rattle.read_machine.specs.Courses.{counted}
 use Rattle.read_machine.specs.Readings as readings
-use Rattle.read_machine.proofs.Keeping.{read_so}
-use Rattle.read_machine.proofs.Ways.{Comes, again, comes, ends, goes}
+use Rattle.read_machine.proofs.Replied.{read_so}
+use Rattle.merge_client.proofs.Comes.{Comes, again, comes, ends, goes}
 use Rattle.read_machine.proofs.Sound.{Ends}
 use Rattle.token_machine.specs.Outcomes.{token_outcome}
 use Rattle.token_machine.specs.Storings as storing
@@ -49,7 +49,7 @@ refused_fits c r refusals.NotPresent = tt
 refused_fits c r refusals.NoMember = tt
 refused_fits c r other = tt
 
-token_fits : (c : Compactor) (r : Reply) (refusal : Refusal) → Fits r (merge_poll c (token_outcome c.storing.trying.failed
+token_fits : (c : Compactor) (r : Reply) (refusal : Refusal) → Fits r (merge_poll c (token_outcome c.storing.trying
     c.token refusal))
 token_fits c r (refusals.TokenOld last) = elim (bool_cases ((last == c.token) && c.storing.trying.failed)) [
   | inl h ↦ rw h

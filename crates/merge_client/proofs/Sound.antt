@@ -19,12 +19,12 @@ use Rattle.machine_core.specs.Machines.{GoesOn}
 use Rattle.read_machine.specs.declared.readings.Reading.{Reading}
 use Rattle.read_machine.specs.Courses.{counted}
 use Rattle.read_machine.specs.Readings as readings
-use Rattle.read_machine.proofs.Keeping.{ended_none, more_kept as read_kept, read_stays, sound_by}
+use Rattle.read_machine.proofs.Replied.{ended_none, more_kept as read_kept, read_stays, sound_by}
 use Rattle.read_machine.proofs.Sound.{Ends}
 use Rattle.read_machine.proofs.Ways.{Stays}
 use Rattle.token_machine.specs.declared.storings.Storing.{Storing}
 use Rattle.token_machine.specs.Storings as storing
-use Rattle.token_machine.proofs.Ways.{still_seen, tried_way}
+use Rattle.token_machine.proofs.Ways.{IsEnding, still_seen, tried_way}
 use Rattle.merge_client.specs.declared.compactors.Compactor.{Compactor}
 use Rattle.merge_client.specs.declared.dues.Due.{Due}
 use Rattle.merge_client.specs.declared.founds.Found.{Found}
@@ -130,11 +130,17 @@ over_known old t reply tried over moves = go (how_moved old t reply tried moves)
     go (try_failed idle answer is now) = absurd (subst IsOver is over)
     go (try_cased rd next m) = cas rd tried over m
 
+over_ending : (tried : Tried) → IsOver tried → IsEnding tried
+over_ending (tries.Committed version) over = tt
+over_ending (tries.Refused refusal) over = tt
+over_ending tries.Spent over = tt
+over_ending other over = absurd over
+
 stored_known : (old s : Storing) (reply : Reply) (tried : Tried) → IsOver tried → storing.Moves old reply s tried →
     IsSome s.trying.loader.cached
 stored_known old s reply tried over moves =
-    let (unset, (t, m, n)) = tried_way old s reply tried moves (λ e. subst IsOver e over) (λ e. subst IsOver e over) in
-    subst (λ (z : Storing). IsSome z.trying.loader.cached) (sym n) (over_known old.trying t reply tried over m)
+    let w = tried_way old s reply tried moves (over_ending tried over) in
+    subst (λ (z : Storing). IsSome z.trying.loader.cached) (sym w.is) (over_known old.trying w.to reply tried over w.moves)
 
 -- what is answered has come by one of these
 abbrev is_done : Poll MergeAnswer → Bool

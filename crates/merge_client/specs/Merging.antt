@@ -159,7 +159,7 @@ merge_poll c storeds.Fault = polls.Fault
 merge_poll c storeds.Spent = polls.Spent
 merge_poll c (storeds.Damaged damage) = polls.Damaged damage
 merge_poll c (storeds.Now version) = polls.Done (answers.Merged version)
-merge_poll c storeds.Before = polls.Done (answers.Merged (unwrap_or c.storing.trying.tried 0))
+merge_poll c (storeds.Before version) = polls.Done (answers.Merged version)
 merge_poll c (storeds.Refused refusal) = merge_refused c refusal
 merge_poll c storeds.Strange = strange c
 
@@ -188,7 +188,7 @@ change_poll c asked (outcomes.Strange version) = strange c
 
 -- what a poll answers, to a merge or a change of the member
 abbrev pub verdict : Compactor → Asked → Tried → Poll MergeAnswer
-verdict c asks.Merge tried = merge_poll c (stored c.storing.trying.failed c.token tried)
+verdict c asks.Merge tried = merge_poll c (stored c.storing.trying c.token tried)
 verdict c asked tried = change_poll c asked (outcome c.storing.trying (own_member c) tried)
 
 -- ---- what becomes of a compactor after a poll

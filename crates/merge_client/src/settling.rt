@@ -182,10 +182,9 @@ impl Compactor {
             Stored::Fault => Poll::Fault,
             Stored::Spent => Poll::Spent,
             Stored::Damaged(damage) => Poll::Damaged(damage),
-            Stored::Now { version } => Poll::Done(MergeAnswer::Merged { version }),
-            Stored::Before => Poll::Done(MergeAnswer::Merged {
-                version: self.storing.trying.tried.unwrap_or(0),
-            }),
+            Stored::Now { version } | Stored::Before { version } => {
+                Poll::Done(MergeAnswer::Merged { version })
+            }
             Stored::Refused(refusal) => self.merge_refused(refusal),
             Stored::Strange => self.strange(),
         }
