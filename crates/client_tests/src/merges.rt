@@ -118,10 +118,10 @@ fn compactor_life(alloc: Global, faults: &[(u64, bool)]) -> Result<(String, Stri
     append_two(alloc, &mut store)?;
     let mut text = String::new(alloc);
     let mut compactor = opened_compactor(alloc, &mut store, &mut text)?;
-    for _ in 0..2 {
-        merge_word(alloc, &mut compactor);
-        merge_out(alloc, &mut compactor, &mut store, &mut text)?;
-    }
+    merge_word(alloc, &mut compactor);
+    merge_out(alloc, &mut compactor, &mut store, &mut text)?;
+    merge_word(alloc, &mut compactor);
+    merge_out(alloc, &mut compactor, &mut store, &mut text)?;
     renew_word(alloc, &mut compactor);
     merge_out(alloc, &mut compactor, &mut store, &mut text)?;
     close_word(alloc, &mut compactor);

@@ -3,7 +3,7 @@ use spine_core::{Batch, Desc, KeyList};
 use state_core::Transition;
 use std::alloc::{AllocError, Global};
 use store_core::{PartKey, ShardId};
-use update_core::{Datum, Frontier, Update, UpdateList};
+use update_core::{Datum, Frontier, Update, UpdateList, weight};
 
 const SHARD: ShardId = ShardId(1);
 
@@ -53,6 +53,9 @@ fn rows_of(alloc: Global, rows: &[(u8, u64, i64)]) -> Result<UpdateList, AllocEr
 fn two_batches_of_three_rows(rt: HostRuntime) -> Result<(), AllocError> {
     let alloc = rt.alloc();
     let rows = rows_of(alloc, &[(b'x', 1, 1), (b'x', 6, -1), (b'y', 7, 2)])?;
+    if weight(&rows) > 1 << 62 {
+        return Err(AllocError);
+    }
     let owner = Owner {
         shard: SHARD,
         member: 3,
