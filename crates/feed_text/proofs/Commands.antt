@@ -3,9 +3,9 @@ use Rattle.std.proofs.Common.{◌≡◌, ℕ, List, [], ◌∷◌, ◌++◌, map
 use Rattle.std.specs.List.{AllByRecursion}
 use Rattle.update_core.specs.declared.updates.Update.{Update}
 use Rattle.feed_text.specs.declared.feed_lines.FeedLine.{FeedLine}
-use Rattle.feed_text.specs.declared.feed_lines.FeedLine.TheVariants.{Append, Snapshot, Listen, Since}
+use Rattle.feed_text.specs.declared.feed_lines.FeedLine.TheVariants.{Append, Snapshot, Listen, Since, Compact}
 use Rattle.feed_text.specs.Grammar.{row_line, dot_line, command_lines, feed_lines, IsRow, IsCommand}
-use Rattle.feed_text.proofs.Rows.{row_one, append_one, snapshot_one, listen_one, since_one, append_no_snapshot, append_no_listen, append_no_since, listen_no_snapshot, listen_no_since, since_no_snapshot, row_no_dot}
+use Rattle.feed_text.proofs.Rows.{row_one, append_one, snapshot_one, listen_one, since_one, append_no_snapshot, append_no_listen, append_no_since, append_no_compact, listen_no_snapshot, listen_no_since, listen_no_compact, snapshot_no_compact, since_no_snapshot, since_no_compact, row_no_dot}
 
 -- rows up to a dot are the same rows, and so is what comes after it
 pub block_one : (us vs : List Update) (xs ys : List (List ℕ)) → AllByRecursion IsRow us → AllByRecursion IsRow vs
@@ -30,18 +30,27 @@ command_one (Append a) (Append b) xs ys hc hd e =
 command_one (Append a) (Snapshot t) xs ys hc hd e = absurd (append_no_snapshot a.lower a.upper t cc)
 command_one (Append a) (Listen t) xs ys hc hd e = absurd (append_no_listen a.lower a.upper t cc)
 command_one (Append a) (Since t) xs ys hc hd e = absurd (append_no_since a.lower a.upper t cc)
+command_one (Append a) Compact xs ys hc hd e = absurd (append_no_compact a.lower a.upper cc)
 command_one (Snapshot t) (Append b) xs ys hc hd e = absurd (append_no_snapshot b.lower b.upper t cc)
 command_one (Snapshot s) (Snapshot t) xs ys hc hd e = (ap Snapshot (snapshot_one s t hc hd cc), cc)
 command_one (Snapshot s) (Listen t) xs ys hc hd e = absurd (listen_no_snapshot t s cc)
 command_one (Snapshot s) (Since t) xs ys hc hd e = absurd (since_no_snapshot t s cc)
+command_one (Snapshot t) Compact xs ys hc hd e = absurd (snapshot_no_compact t cc)
 command_one (Listen t) (Append b) xs ys hc hd e = absurd (append_no_listen b.lower b.upper t cc)
 command_one (Listen s) (Snapshot t) xs ys hc hd e = absurd (listen_no_snapshot s t cc)
 command_one (Listen s) (Listen t) xs ys hc hd e = (ap Listen (listen_one s t hc hd cc), cc)
 command_one (Listen s) (Since t) xs ys hc hd e = absurd (listen_no_since s t cc)
+command_one (Listen t) Compact xs ys hc hd e = absurd (listen_no_compact t cc)
 command_one (Since t) (Append b) xs ys hc hd e = absurd (append_no_since b.lower b.upper t cc)
 command_one (Since s) (Snapshot t) xs ys hc hd e = absurd (since_no_snapshot s t cc)
 command_one (Since s) (Listen t) xs ys hc hd e = absurd (listen_no_since t s cc)
 command_one (Since s) (Since t) xs ys hc hd e = (ap Since (since_one s t hc hd cc), cc)
+command_one (Since t) Compact xs ys hc hd e = absurd (since_no_compact t cc)
+command_one Compact (Append b) xs ys hc hd e = absurd (append_no_compact b.lower b.upper cc)
+command_one Compact (Snapshot t) xs ys hc hd e = absurd (snapshot_no_compact t cc)
+command_one Compact (Listen t) xs ys hc hd e = absurd (listen_no_compact t cc)
+command_one Compact (Since t) xs ys hc hd e = absurd (since_no_compact t cc)
+command_one Compact Compact xs ys hc hd e = (refl, cc)
 
 -- a feed whose lines begin with those of some commands begins with these commands
 pub commands_one : (cs fs : List FeedLine) (ys : List (List ℕ)) → AllByRecursion IsCommand cs → AllByRecursion IsCommand fs → feed_lines cs ++ ys ≡ feed_lines fs
@@ -54,6 +63,7 @@ commands_one (c ∷ cs) [] ys hc hf e = absurd (some c (feed_lines cs ++ ys) (sy
     some (Snapshot t) xs e = cc
     some (Listen t) xs e = cc
     some (Since t) xs e = cc
+    some Compact xs e = cc
 commands_one (c ∷ cs) (f ∷ fs) ys hc hf e =
     let first = command_one c f (feed_lines cs ++ ys) (feed_lines fs) hc.0 hf.0 (sym (append_assoc (command_lines c) (feed_lines cs) ys) ∙ e) in
     let rest = commands_one cs fs ys hc.1 hf.1 first.1 in
@@ -71,3 +81,4 @@ feeds_one fs gs hf hg e =
     none (Snapshot t ∷ rest) e is = cc
     none (Listen t ∷ rest) e is = cc
     none (Since t ∷ rest) e is = cc
+    none (Compact ∷ rest) e is = cc

@@ -5,8 +5,8 @@ use Rattle.std.specs.Prelude.{FitsSigned, codes}
 use Rattle.std.specs.Fmt.{decimal, signed_decimal}
 use Rattle.update_core.specs.declared.updates.Update.{Update}
 use Rattle.feed_text.specs.declared.feed_lines.FeedLine.{FeedLine}
-use Rattle.feed_text.specs.declared.feed_lines.FeedLine.TheVariants.{Append, Snapshot, Listen, Since}
-use Rattle.feed_text.specs.Grammar.{append_line, command_lines, dot_line, frontier_text, row_line, IsCommand, IsNoCommand, IsRow}
+use Rattle.feed_text.specs.declared.feed_lines.FeedLine.TheVariants.{Append, Snapshot, Listen, Since, Compact}
+use Rattle.feed_text.specs.Grammar.{append_line, command_lines, compact_line, dot_line, frontier_text, row_line, IsCommand, IsNoCommand, IsRow}
 use Rattle.feed_text.proofs.Cuts.{Lacks, no_cut, lacks_end}
 use Rattle.feed_text.proofs.Spelled.{NoNumber}
 use Rattle.feed_text.proofs.Words.{cut_once, decimal_spaceless, signed_spaceless}
@@ -125,8 +125,8 @@ bad_upper line word rest lower upper cut lacks cut_again lacks_again bad = λ l 
 abbrev pub IsNamed : List ℕ → Type 0
 IsNamed line = (name : List ℕ) × (t : ℕ) × (t < 2 ^ 64) × (line ≡ name ++ 32 ∷ decimal t) × Lacks 32 name × ((name ≡ codes "snapshot") ⊎ ((name ≡ codes "listen") ⊎ (name ≡ codes "since")))
 
-named : (command : FeedLine) (line : List ℕ) → IsCommand command → command_lines command ≡ line ∷ [] → IsNamed line
-named (Append a) line is e = absurd (longer a.rows (tails e))
+named : (command : FeedLine) (line : List ℕ) → IsCommand command → command_lines command ≡ line ∷ [] → line ≢ compact_line → IsNamed line
+named (Append a) line is e apart = absurd (longer a.rows (tails e))
   where
     tails : {x y : List ℕ} {xs ys : List (List ℕ)} → x ∷ xs ≡ y ∷ ys → xs ≡ ys
     tails e = cc
@@ -134,32 +134,36 @@ named (Append a) line is e = absurd (longer a.rows (tails e))
     longer : (us : List Update) → map row_line us ++ dot_line ∷ [] ≡ [] → ⊥
     longer [] e = cc
     longer (u ∷ us) e = cc
-named (Snapshot t) line is e = (codes "snapshot", t, is, only e, snapshot_lacks, inl refl)
+named (Snapshot t) line is e apart = (codes "snapshot", t, is, only e, snapshot_lacks, inl refl)
   where
     only : {x y : List ℕ} → x ∷ [] ≡ y ∷ [] → y ≡ x
     only e = cc
-named (Listen t) line is e = (codes "listen", t, is, only e, listen_lacks, inr (inl refl))
+named (Listen t) line is e apart = (codes "listen", t, is, only e, listen_lacks, inr (inl refl))
   where
     only : {x y : List ℕ} → x ∷ [] ≡ y ∷ [] → y ≡ x
     only e = cc
-named (Since t) line is e = (codes "since", t, is, only e, since_lacks, inr (inr refl))
+named (Since t) line is e apart = (codes "since", t, is, only e, since_lacks, inr (inr refl))
+  where
+    only : {x y : List ℕ} → x ∷ [] ≡ y ∷ [] → y ≡ x
+    only e = cc
+named Compact line is e apart = absurd (apart (only e))
   where
     only : {x y : List ℕ} → x ∷ [] ≡ y ∷ [] → y ≡ x
     only e = cc
 
-pub command_uncut : (line : List ℕ) → Lacks 32 line → IsNoCommand line
-command_uncut line lacks = λ command is e.
-    let n = named command line is e in
+pub command_uncut : (line : List ℕ) → line ≢ compact_line → Lacks 32 line → IsNoCommand line
+command_uncut line apart lacks = λ command is e.
+    let n = named command line is e apart in
     no_cut 32 line n.0 (decimal n.1) lacks n.3
 
-pub bad_command_time : (line word rest : List ℕ) → line ≡ word ++ 32 ∷ rest → Lacks 32 word → NoNumber rest → IsNoCommand line
-bad_command_time line word rest cut lacks bad = λ command is e.
-    let n = named command line is e in
+pub bad_command_time : (line word rest : List ℕ) → line ≢ compact_line → line ≡ word ++ 32 ∷ rest → Lacks 32 word → NoNumber rest → IsNoCommand line
+bad_command_time line word rest apart cut lacks bad = λ command is e.
+    let n = named command line is e apart in
     bad n.1 n.2 ((cut_once word n.0 rest (decimal n.1) lacks n.4 (sym cut ∙ n.3)).1)
 
-pub other_name : (line word rest : List ℕ) → line ≡ word ++ 32 ∷ rest → Lacks 32 word → word ≢ codes "snapshot" → word ≢ codes "listen" → word ≢ codes "since" → IsNoCommand line
-other_name line word rest cut lacks no_snapshot no_listen no_since = λ command is e.
-    let n = named command line is e in
+pub other_name : (line word rest : List ℕ) → line ≢ compact_line → line ≡ word ++ 32 ∷ rest → Lacks 32 word → word ≢ codes "snapshot" → word ≢ codes "listen" → word ≢ codes "since" → IsNoCommand line
+other_name line word rest apart cut lacks no_snapshot no_listen no_since = λ command is e.
+    let n = named command line is e apart in
     let same = (cut_once word n.0 rest (decimal n.1) lacks n.4 (sym cut ∙ n.3)).0 in
     ⊎_elim (λ (x : n.0 ≡ codes "snapshot"). no_snapshot (same ∙ x)) (λ (y : (n.0 ≡ codes "listen") ⊎ (n.0 ≡ codes "since")). ⊎_elim (λ (x : n.0 ≡ codes "listen"). no_listen (same ∙ x)) (λ (x : n.0 ≡ codes "since"). no_since (same ∙ x)) y) n.5
 

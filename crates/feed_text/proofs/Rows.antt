@@ -4,7 +4,7 @@ use Rattle.std.specs.Fmt.{decimal, signed_decimal}
 use Rattle.std.specs.Int.{IsInRange}
 use Rattle.std.proofs.lemmas.Fmt.{decimal_injective}
 use Rattle.update_core.specs.declared.updates.Update.{Update}
-use Rattle.feed_text.specs.Grammar.{append_line, snapshot_line, listen_line, since_line, row_line, dot_line, frontier_text, IsRow}
+use Rattle.feed_text.specs.Grammar.{append_line, snapshot_line, listen_line, since_line, compact_line, row_line, dot_line, frontier_text, IsRow}
 use Rattle.feed_text.proofs.Words.{decimal_spaceless, signed_spaceless, first_digit, signed_one, frontier_one, cut_once}
 
 pub row_one : (u v : Update) → IsRow u → IsRow v → row_line u ≡ row_line v → u ≡ v
@@ -79,6 +79,34 @@ since_no_snapshot s t e =
     apart 105 110 refl refl (heads (tails e))
   where
     apart : (b c : ℕ) → b ≡ 105 → c ≡ 110 → b ≡ c → ⊥
+    apart b c p q r = omega arith
+
+pub append_no_compact : (l : ℕ) (u : Option ℕ) → append_line l u ≡ compact_line → ⊥
+append_no_compact l u e =
+    apart 97 99 refl refl (heads e)
+  where
+    apart : (b c : ℕ) → b ≡ 97 → c ≡ 99 → b ≡ c → ⊥
+    apart b c p q r = omega arith
+
+pub listen_no_compact : (t : ℕ) → listen_line t ≡ compact_line → ⊥
+listen_no_compact t e =
+    apart 108 99 refl refl (heads e)
+  where
+    apart : (b c : ℕ) → b ≡ 108 → c ≡ 99 → b ≡ c → ⊥
+    apart b c p q r = omega arith
+
+pub snapshot_no_compact : (t : ℕ) → snapshot_line t ≡ compact_line → ⊥
+snapshot_no_compact t e =
+    apart 115 99 refl refl (heads e)
+  where
+    apart : (b c : ℕ) → b ≡ 115 → c ≡ 99 → b ≡ c → ⊥
+    apart b c p q r = omega arith
+
+pub since_no_compact : (t : ℕ) → since_line t ≡ compact_line → ⊥
+since_no_compact t e =
+    apart 115 99 refl refl (heads e)
+  where
+    apart : (b c : ℕ) → b ≡ 115 → c ≡ 99 → b ≡ c → ⊥
     apart b c p q r = omega arith
 
 -- a row's line begins with a digit

@@ -5,12 +5,12 @@ use Rattle.std.proofs.lemmas.List.Concat.{flat_map-append}
 use Rattle.update_core.specs.declared.appends.FeedAppend.{FeedAppend}
 use Rattle.update_core.specs.declared.updates.Update.{Update}
 use Rattle.feed_text.specs.declared.feed_lines.FeedLine.{FeedLine}
-use Rattle.feed_text.specs.declared.feed_lines.FeedLine.TheVariants.{Append, Snapshot, Listen, Since}
+use Rattle.feed_text.specs.declared.feed_lines.FeedLine.TheVariants.{Append, Snapshot, Listen, Since, Compact}
 use Rattle.feed_text.specs.declared.limits.TheConstants.{MAX_COMMANDS, MAX_ROWS}
 use Rattle.feed_text.specs.Lines.{lines_of}
 use Rattle.feed_text.specs.Grammar.{append_line, row_line, dot_line, command_lines, feed_lines, IsRow, IsAppend, IsCommand, IsFeed, IsNoCommand, Spells, Begins}
 use Rattle.feed_text.specs.Reading.{block_lines}
-use Rattle.feed_text.proofs.Rows.{row_one, append_no_snapshot, append_no_listen, append_no_since, row_no_dot}
+use Rattle.feed_text.proofs.Rows.{row_one, append_no_snapshot, append_no_listen, append_no_since, append_no_compact, row_no_dot}
 use Rattle.feed_text.proofs.Commands.{commands_one}
 
 pub all_append : {A : Type 0} (P : A → Type 0) (xs ys : List A) → AllByRecursion P xs → AllByRecursion P ys → AllByRecursion P (xs ++ ys)
@@ -58,6 +58,7 @@ opened commands fs lower upper rows more hc hf e =
     which (Snapshot t) rest is e = absurd (append_no_snapshot lower upper t (sym (heads e)))
     which (Listen t) rest is e = absurd (append_no_listen lower upper t (sym (heads e)))
     which (Since t) rest is e = absurd (append_no_since lower upper t (sym (heads e)))
+    which Compact rest is e = absurd (append_no_compact lower upper (sym (heads e)))
 
 -- the line after some rows of a block is the dot or the next row
 next_in_block : (us vs : List Update) (line : List ℕ) (xs more : List (List ℕ)) → AllByRecursion IsRow us → AllByRecursion IsRow vs
@@ -99,6 +100,7 @@ no_command commands line each no_append none begins =
     which (Snapshot t) rest is e = none (Snapshot t) is (λ i. heads e i ∷ [])
     which (Listen t) rest is e = none (Listen t) is (λ i. heads e i ∷ [])
     which (Since t) rest is e = none (Since t) is (λ i. heads e i ∷ [])
+    which Compact rest is e = none Compact is (λ i. heads e i ∷ [])
 
 -- after the last command that a feed may have comes no line
 pub too_many_commands : (commands : List FeedLine) (line : List ℕ) → AllByRecursion IsCommand commands → length commands ≡ MAX_COMMANDS

@@ -1,12 +1,12 @@
 -- The texts that are feeds of `run`, and the line at which another text is refused.
-use Rattle.std.specs.Prelude.{◌≡◌, ◌≢◌, ◌⊎◌, ℕ, ◌+◌, ◌-◌, ◌^◌, ◌<◌, ◌≤◌, Option, Some, None, IfSome, List, [], ◌∷◌, ◌++◌, length, take, map, codes, FitsSigned}
+use Rattle.std.specs.Prelude.{⊤, ◌≡◌, ◌≢◌, ◌⊎◌, ℕ, ◌+◌, ◌-◌, ◌^◌, ◌<◌, ◌≤◌, Option, Some, None, IfSome, List, [], ◌∷◌, ◌++◌, length, take, map, codes, FitsSigned}
 use Rattle.std.specs.Fmt.{decimal, signed_decimal}
 use Rattle.std.specs.Int.{w64}
 use Rattle.std.specs.List.{AllByRecursion, flat_map}
 use Rattle.update_core.specs.declared.appends.FeedAppend.{FeedAppend}
 use Rattle.update_core.specs.declared.updates.Update.{Update}
 use Rattle.feed_text.specs.declared.feed_lines.FeedLine.{FeedLine}
-use Rattle.feed_text.specs.declared.feed_lines.FeedLine.TheVariants.{Append, Snapshot, Listen, Since}
+use Rattle.feed_text.specs.declared.feed_lines.FeedLine.TheVariants.{Append, Snapshot, Listen, Since, Compact}
 use Rattle.feed_text.specs.declared.limits.TheConstants.{MAX_BYTES, MAX_COMMANDS, MAX_ROWS}
 use Rattle.feed_text.specs.Lines.{lines_of}
 
@@ -35,6 +35,10 @@ listen_line t = codes "listen " ++ decimal t
 abbrev pub since_line : ℕ → List ℕ
 since_line to = codes "since " ++ decimal to
 
+-- `compact`
+abbrev pub compact_line : List ℕ
+compact_line = codes "compact"
+
 -- `.`
 abbrev pub dot_line : List ℕ
 dot_line = 46 ∷ []
@@ -45,6 +49,7 @@ command_lines (Append a) = append_line a.lower a.upper ∷ (map row_line a.rows 
 command_lines (Snapshot t) = snapshot_line t ∷ []
 command_lines (Listen t) = listen_line t ∷ []
 command_lines (Since to) = since_line to ∷ []
+command_lines Compact = compact_line ∷ []
 
 abbrev pub feed_lines : List FeedLine → List (List ℕ)
 feed_lines commands = flat_map command_lines commands
@@ -69,6 +74,7 @@ IsCommand (Append a) = IsAppend a
 IsCommand (Snapshot t) = t < 2 ^ 64
 IsCommand (Listen t) = t < 2 ^ 64
 IsCommand (Since to) = to < 2 ^ 64
+IsCommand Compact = ⊤
 
 -- no command has this as its one line
 abbrev pub IsNoCommand : List ℕ → Type 0

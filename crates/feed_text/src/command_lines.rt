@@ -28,12 +28,15 @@ pub fn append_head(alloc: Global, line: &[u8]) -> Option<FeedAppend>
     })
 }
 
-// The command that a line spells on its own: a word and a time.
+// The command that a line spells on its own: a word and a time, or the word `compact` alone.
 pub(crate) fn one_line_command(line: &[u8]) -> Option<FeedLine>
     ensures { MatchOption result
         (IsNoCommand line.now)
         (λ command. IsCommand command × (command_lines command ≡ line.now ∷ [])) }
 {
+    if line == b"compact".as_slice() {
+        return Some(FeedLine::Compact);
+    }
     let (word, time) = cut_at(b' ', line)?;
     let time = number(time)?;
     if word == b"snapshot".as_slice() {

@@ -15,6 +15,8 @@ pub enum FeedLine {
     Listen { t: u64 },
     /// A new since for the reader of the run.
     Since { to: u64 },
+    /// Merges what is due, and collects what is then no more needed.
+    Compact,
 }
 
 // An equal append.
@@ -38,6 +40,7 @@ impl FeedLine {
             FeedLine::Snapshot { t } => Ok(FeedLine::Snapshot { t: *t }),
             FeedLine::Listen { t } => Ok(FeedLine::Listen { t: *t }),
             FeedLine::Since { to } => Ok(FeedLine::Since { to: *to }),
+            FeedLine::Compact => Ok(FeedLine::Compact),
         }
     }
 }
