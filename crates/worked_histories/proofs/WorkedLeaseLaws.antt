@@ -1,5 +1,5 @@
 -- Each call of the two histories is allowed by those before it.
-use Rattle.std.proofs.Common.{◌≡◌, ℕ, zero, suc, ◌+◌, ◌<◌, List, [], ◌∷◌, ◌++◌, inl, inr, refl, sym, subst, arith}
+use Rattle.std.proofs.Common.{◌≡◌, ℕ, zero, suc, ◌+◌, ◌<◌, List, [], ◌∷◌, inl, inr, refl, sym, subst, arith}
 use Rattle.std.specs.Prelude.{reverse}
 use Rattle.std.specs.List.{AllByRecursion}
 use Rattle.store_core.specs.declared.entries.Entry.{Entry}

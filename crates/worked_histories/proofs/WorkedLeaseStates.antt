@@ -1,5 +1,5 @@
 -- The further versions hold their states, which keep the rules, and each transition applies to the state before.
-use Rattle.std.proofs.Common.{◌≡◌, ℕ, Some, inl, inr, refl, arith}
+use Rattle.std.proofs.Common.{◌≡◌, Some, inl, inr, refl, arith}
 use Rattle.state_core.specs.States.{IsState}
 use Rattle.state_core.specs.Steps.{Applies}
 use Rattle.state_core.specs.VersionReading.{version_in}

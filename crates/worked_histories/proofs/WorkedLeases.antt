@@ -1,5 +1,5 @@
 -- What the reader and the collectors are answered in the two histories, and what the store stands for.
-use Rattle.std.proofs.Common.{◌≡◌, ◌≢◌, ◌∙◌, ◌⊎◌, ℕ, zero, suc, ◌+◌, ◌<◌, Option, List, [], ◌∷◌, ◌++◌, inl, inr, Some, None, refl, sym, ap, subst, arith}
+use Rattle.std.proofs.Common.{◌≡◌, ◌⊎◌, ℕ, zero, suc, ◌<◌, List, [], ◌∷◌, ◌++◌, inl, inr, Some, None, refl, ap, subst, arith}
 use Rattle.std.specs.Prelude.{reverse, take}
 use Rattle.update_core.specs.declared.updates.Update.{Update}
 use Rattle.update_core.specs.Collections.{content}
@@ -13,7 +13,6 @@ use Rattle.store_core.specs.Histories.{reply, store_after}
 use Rattle.store_core.specs.Newest.{replay_back}
 use Rattle.state_core.specs.declared.transitions.Transition.TheVariants.{Init}
 use Rattle.state_core.specs.Steps.{Takes}
-use Rattle.state_core.specs.States.{ShardState}
 use Rattle.history_core.specs.declared.collect_answers.CollectAnswer.TheVariants.{Collected}
 use Rattle.history_core.specs.declared.read_answers.ReadAnswer.TheVariants.{Rows, Expired}
 use Rattle.history_core.specs.Discipline.{Lawful, TakenUpTo}

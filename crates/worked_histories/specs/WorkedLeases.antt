@@ -1,6 +1,6 @@
 -- Two worked histories that go on from the two appends, while the reader holds their parts. In one it renews its lease, a
 -- collector stops halfway, and another goes on; in the other its lease runs out.
-use Rattle.std.specs.Prelude.{ℕ, List, [], ◌∷◌, ◌++◌, Some, None, Option, take}
+use Rattle.std.specs.Prelude.{ℕ, List, [], ◌∷◌, ◌++◌, Some, None, take}
 use Rattle.store_core.specs.declared.calls.Call.TheVariants.{Scan, Cas, Truncate, Get, Set, Delete}
 use Rattle.store_core.specs.declared.entries.Entry.{Entry}
 use Rattle.store_core.specs.Stores.{empty_store}
@@ -10,7 +10,6 @@ use Rattle.state_core.specs.declared.transitions.Transition.{Transition}
 use Rattle.state_core.specs.declared.transitions.Transition.TheVariants.{Renew, Expire}
 use Rattle.state_core.specs.States.{ShardState}
 use Rattle.state_core.specs.Versions.{version_spelling}
-use Rattle.history_core.specs.declared.asked.Asked.{Asked}
 use Rattle.history_core.specs.declared.asked.Asked.TheVariants.{Snapshot, Collect}
 use Rattle.history_core.specs.Legal.{Command}
 use Rattle.worked_histories.specs.Worked.{the_shard, key, writer, keeper, reader, state6, merged_part, version6}
