@@ -1,0 +1,6 @@
+pub mod Words
+pub mod PairWords
+pub mod SawWords
+pub mod SourceWords
+pub mod Lines
+pub mod Leading
