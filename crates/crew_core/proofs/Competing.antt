@@ -44,7 +44,8 @@ use Rattle.appends_core.specs.Feeds.{FollowOn, from_upper, rows_of, weight_of_al
 use Rattle.crew_core.specs.Working.{CarriesWorkers, IsOneOf, IsWorkersEntry, IsWorkersStep}
 use Rattle.crew_core.proofs.Accepting.{storers_law}
 use Rattle.crew_core.proofs.Commits.{Begun, Stepped, commits_there, what_commits}
-use Rattle.crew_core.proofs.FeedLaws.{end_on, found_at, rest_from, rows_on, weight_on}
+use Rattle.appends_core.proofs.FeedSteps.{end_on, rows_on, weight_on}
+use Rattle.crew_core.proofs.FeedLaws.{found_at, rest_from}
 
 -- ---- since stays where a writer leaves
 
