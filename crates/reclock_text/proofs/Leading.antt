@@ -1,13 +1,12 @@
 -- How far the lines of a text have been taken.
-use Rattle.std.proofs.Common.{◌≡◌, ◌⊎◌, inl, inr, ℕ, ◌+◌, ◌<◌, ◌≤◌, List, [], ◌∷◌, ◌++◌, length, append_assoc, append-nil, length-append, refl, sym, ap, subst, ◌∙◌, arith}
+use Rattle.std.proofs.Common.{◌≡◌, inl, inr, ℕ, ◌+◌, ◌<◌, ◌≤◌, List, [], ◌∷◌, ◌++◌, length, append_assoc, append-nil, length-append, refl, sym, ap, subst, ◌∙◌, arith}
 use Rattle.std.specs.List.{AllByRecursion}
 use Rattle.std.proofs.lemmas.List.{take_all}
-use Rattle.feed_text.specs.declared.limits.TheConstants.{MAX_BYTES, MAX_ROWS}
+use Rattle.feed_text.specs.declared.limits.TheConstants.{MAX_BYTES}
 use Rattle.feed_text.specs.Grammar.{lines_read}
 use Rattle.feed_text.specs.Lines.{lines_of}
 use Rattle.reclock_text.specs.declared.feeds.ReclockFeed.{ReclockFeed}
 use Rattle.reclock_text.specs.declared.saws.Saw.{Saw}
-use Rattle.reclock_text.specs.declared.limits.TheConstants.{MAX_SAWS}
 use Rattle.reclock_text.specs.Feeds.{IsWithin, Leads, Spells, StopsAt, Takes, nothing}
 
 module _ (operators : ℕ) where

@@ -4,3 +4,4 @@ pub mod SawWords
 pub mod SourceWords
 pub mod Lines
 pub mod Leading
+pub mod Bindings

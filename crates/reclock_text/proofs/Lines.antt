@@ -1,20 +1,17 @@
 -- What a line makes of a feed so far.
-use Rattle.std.proofs.Common.{◌≡◌, ◌⊎◌, inl, inr, ℕ, ◌+◌, ◌^◌, ◌<◌, ◌≤◌, Option, Some, None, Result, Ok, Err, List, [], ◌∷◌, ◌++◌, length, codes, refl, sym, ap, subst, ◌∙◌, arith}
+use Rattle.std.proofs.Common.{◌≡◌, ◌⊎◌, inl, inr, ℕ, ◌<◌, ◌≤◌, Option, Some, None, Result, Ok, Err, List, [], ◌∷◌, ◌++◌, length, refl, sym, ap, subst, ◌∙◌, arith}
 use Rattle.std.specs.Prelude.{IfOk, IfSome, MatchOption}
-use Rattle.std.specs.Fmt.{decimal}
 use borrow.Author.Tests.{eqb-false}
-use Rattle.update_core.specs.declared.updates.Update.{Update}
 use Rattle.remap_core.specs.declared.source_rows.SourceRow.{SourceRow}
 use Rattle.remap_core.specs.Reclocking.{weight_of_rows}
 use Rattle.feed_text.specs.declared.limits.TheConstants.{MAX_ROWS}
-use Rattle.feed_text.specs.Grammar.{row_line}
 use Rattle.reclock_text.specs.declared.feeds.ReclockFeed.{ReclockFeed}
 use Rattle.reclock_text.specs.declared.limits.TheConstants.{MAX_SAWS, MAX_WEIGHT}
 use Rattle.reclock_text.specs.declared.reclock_reading.SoFar.{SoFar}
 use Rattle.reclock_text.specs.declared.saws.Saw.{Saw}
-use Rattle.reclock_text.specs.Saws.{IsSawLine, saw_head}
-use Rattle.reclock_text.specs.Sources.{as_update, IsSourceRow, part_line, source_line}
-use Rattle.reclock_text.specs.Feeds.{Takes, TakesRow, TakesSaw}
+use Rattle.reclock_text.specs.Saws.{IsSawLine}
+use Rattle.reclock_text.specs.Sources.{IsSourceRow, source_line}
+use Rattle.reclock_text.specs.Feeds.{Takes}
 use Rattle.reclock_text.proofs.SawWords.{NoSaw}
 use Rattle.reclock_text.proofs.SourceWords.{source_one}
 use Rattle.reclock_text.proofs.Words.{heads}

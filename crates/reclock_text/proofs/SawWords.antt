@@ -1,11 +1,11 @@
 -- The line of what an operator has seen is cut into its words in one way.
-use Rattle.std.proofs.Common.{◌≡◌, ◌≢◌, ℕ, ◌^◌, ◌<◌, ◌≤◌, List, ◌∷◌, ◌++◌, codes, refl, sym, ap, subst, ◌∙◌, arith}
+use Rattle.std.proofs.Common.{◌≡◌, ℕ, ◌^◌, ◌<◌, ◌≤◌, List, ◌∷◌, ◌++◌, codes, refl, sym, ap, subst, ◌∙◌, arith}
 use Rattle.std.specs.Fmt.{decimal}
 use borrow.Author.Tests.{eqb-false}
 use Rattle.remap_core.specs.Offsets.{unset}
 use Rattle.feed_text.proofs.Cuts.{Lacks}
 use Rattle.reclock_text.specs.declared.saws.Saw.{Saw}
-use Rattle.reclock_text.specs.Saws.{IsSawLine, Tells, saw_head}
+use Rattle.reclock_text.specs.Saws.{IsSawLine, Tells}
 use Rattle.reclock_text.proofs.Words.{NoFirstNumber, behind_once, number_once}
 
 pub saw_lacks : Lacks 32 (codes "saw")

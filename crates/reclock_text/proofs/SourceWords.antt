@@ -1,7 +1,7 @@
 -- The line of a source's row is cut into its words in one way.
-use Rattle.std.proofs.Common.{◌≡◌, ◌≢◌, ℕ, ◌^◌, ◌<◌, ◌≤◌, Option, Some, None, List, ◌∷◌, ◌++◌, refl, sym, ap, subst, ◌∙◌, arith}
+use Rattle.std.proofs.Common.{◌≡◌, ℕ, ◌^◌, ◌<◌, ◌≤◌, Option, Some, None, List, ◌∷◌, ◌++◌, refl, sym, ap, subst, ◌∙◌, arith}
 use Rattle.std.specs.Prelude.{codes, MatchOption}
-use Rattle.std.specs.Fmt.{decimal, signed_decimal}
+use Rattle.std.specs.Fmt.{decimal}
 use Rattle.update_core.specs.declared.updates.Update.{Update}
 use Rattle.remap_core.specs.declared.source_rows.SourceRow.{SourceRow}
 use Rattle.feed_text.specs.Grammar.{row_line, IsRow}

@@ -6,10 +6,14 @@ use Rattle.update_core.specs.declared.updates.Update.{Update}
 use Rattle.feed_text.specs.Replies.{update_text}
 use Rattle.reclock_text.specs.Saws.{pair_text}
 
--- the pairs of a frontier whose offsets aren't 0, of partitions from p on
+-- ` P:O`, where the offset isn't 0
+abbrev pub seen : ℕ × ℕ → List ℕ
+seen a = if a.1 == 0 then [] else pair_text a
+
+-- the offsets of a frontier that aren't 0, of partitions from p on
 abbrev pub seen_from : ℕ → List ℕ → List ℕ
 seen_from p [] = []
-seen_from p (o ∷ os) = if o == 0 then seen_from (p + 1) os else pair_text (p, o) ++ seen_from (p + 1) os
+seen_from p (o ∷ os) = seen (p, o) ++ seen_from (p + 1) os
 
 -- `bind T P:O P:O ..`, with the partitions whose offset isn't 0
 abbrev pub binding_text : ℕ × List ℕ → List ℕ

@@ -15,7 +15,7 @@ mod word_cuts;
 
 pub use feeds::ReclockFeed;
 pub use limits::{MAX_OFFSET, MAX_SAWS, MAX_WEIGHT};
-pub use printing::{print_data, print_operator, print_unbound};
+pub use printing::{print_bindings, print_data, print_operator, print_unbound};
 pub use reclock_parsing::parse_reclock;
 pub use saw_lists::SawList;
 pub use saws::Saw;

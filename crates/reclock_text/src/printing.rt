@@ -1,9 +1,9 @@
 // The texts of what `reclock` prints.
-ghost use Rattle.std.specs.Prelude.{◌≡◌, ◌∷◌, [], ◌++◌, ℕ, List, drop, codes, OnOk, OnErr};
+ghost use Rattle.std.specs.Prelude.{◌≡◌, ◌∷◌, [], ◌++◌, codes, OnOk, OnErr};
 ghost use Rattle.std.specs.Fmt.{decimal, signed_decimal};
 ghost use Rattle.std.specs.List.{flat_map};
 ghost use Rattle.feed_text.specs.Replies.{update_text, Extends};
-ghost use Rattle.reclock_text.specs.Replies.{binding_text, bindings_text, block_text, data_text, operator_text, seen_from, unbound_text};
+ghost use Rattle.reclock_text.specs.Replies.{binding_text, bindings_text, block_text, data_text, operator_text, seen, seen_from, unbound_text};
 ghost use Rattle.reclock_text.specs.Saws.{pair_text};
 
 use itoa::Buffer;
@@ -98,4 +98,51 @@ pub fn print_unbound(out: &mut Vec<u8>, count: u64) -> Result<(), AllocError>
     put(out, b"unbound ")?;
     put_number(out, count)?;
     put(out, b"\n")
+}
+
+// ` P:O`, where the offset isn't 0.
+fn put_pair(out: &mut Vec<u8>, partition: u8, offset: u64) -> Result<(), AllocError>
+    ensures ok { OnOk result (out.new.items ≡ out.old.items ++ seen (partition, offset)) }
+    ensures err { OnErr result (Extends out.old.items out.new.items) }
+{
+    if offset == 0 {
+        return Ok(());
+    }
+    put(out, b" ")?;
+    put_number(out, u64::from(partition))?;
+    put(out, b":")?;
+    put_number(out, offset)
+}
+
+// The pairs of a frontier whose offsets aren't 0.
+fn put_seen(out: &mut Vec<u8>, frontier: &SourceFrontier) -> Result<(), AllocError>
+    ensures ok { OnOk result (out.new.items ≡ out.old.items ++ seen_from 0 frontier.now) }
+    ensures err { OnErr result (Extends out.old.items out.new.items) }
+{
+    for partition in 0..=u8::MAX {
+        put_pair(out, partition, frontier.get(partition))?;
+    }
+    Ok(())
+}
+
+fn put_binding(out: &mut Vec<u8>, time: u64, frontier: &SourceFrontier) -> Result<(), AllocError>
+    ensures ok { OnOk result (out.new.items ≡ out.old.items ++ binding_text (time, frontier.now)) }
+    ensures err { OnErr result (Extends out.old.items out.new.items) }
+{
+    put(out, b"bind ")?;
+    put_number(out, time)?;
+    put_seen(out, frontier)?;
+    put(out, b"\n")
+}
+
+/// Puts each binding on a line at the end. Where memory is refused, some of it may be there.
+pub fn print_bindings(out: &mut Vec<u8>, bindings: &Bindings) -> Result<(), AllocError>
+    ensures ok { OnOk result (out.new.items ≡ out.old.items ++ bindings_text bindings.now) }
+    ensures err { OnErr result (Extends out.old.items out.new.items) }
+{
+    for place in 0..bindings.len() {
+        let (time, frontier) = bindings.at(place);
+        put_binding(out, time, frontier)?;
+    }
+    Ok(())
 }

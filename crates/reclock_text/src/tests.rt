@@ -1,7 +1,8 @@
 // Feeds of `reclock`, by examples.
-use crate::printing::{print_data, print_operator, print_unbound};
+use crate::printing::{print_bindings, print_data, print_operator, print_unbound};
 use crate::reclock_parsing::parse_reclock;
 use feed_text::LineFault;
+use remap_core::{Bindings, SourceFrontier};
 use std::alloc::Global;
 use std::test::Fail;
 use update_core::{Datum, Update, UpdateList};
@@ -126,13 +127,19 @@ fn collections_are_printed(rt: HostRuntime) -> Result<(), Fail> {
         time: 10,
         diff: -2,
     })?;
+    let mut frontier = SourceFrontier::new();
+    frontier.set(0, 3)?;
+    frontier.set(255, 20)?;
+    let mut bindings = Bindings::new(alloc);
+    bindings.add(10, frontier)?;
     let mut out = Vec::new(alloc);
+    print_bindings(&mut out, &bindings)?;
     print_operator(&mut out, 0, &updates)?;
     print_data(&mut out, &updates)?;
     print_unbound(&mut out, 1)?;
     assert_eq!(rt;
         out.as_slice(),
-        b"operator 0\n10 -2 a\n.\ndata\n10 -2 a\n.\nunbound 1\n".as_slice()
+        b"bind 10 0:3 255:20\noperator 0\n10 -2 a\n.\ndata\n10 -2 a\n.\nunbound 1\n".as_slice()
     );
     Ok(())
 }

@@ -1,5 +1,5 @@
 use Rattle.std.proofs.Common.{◌^◌, ◌<◌, arith}
-use Rattle.reclock_text.proofs.SawWords.{big_operator, no_frontier, no_operator, no_saw, no_time}
+use Rattle.reclock_text.proofs.SawWords.{big_operator, no_frontier, no_time}
 use Rattle.reclock_text.proofs.saw_lines.saw.Goals as goal
 
 pub returns-then-operator-from : goal.returns-then-operator-from
