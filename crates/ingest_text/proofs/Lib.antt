@@ -1,0 +1,5 @@
+pub mod Texts
+pub mod Lines
+pub mod Blocks
+pub mod Counting
+pub mod Leading
