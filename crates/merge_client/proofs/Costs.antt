@@ -62,8 +62,10 @@ use Rattle.merge_client.specs.Polling.{CostAt, CostBy, CostOver, OverBy, base_of
 use Rattle.merge_client.proofs.Asking.{read_keeps}
 use Rattle.merge_client.proofs.DuePairs.{found_so}
 use Rattle.merge_client.proofs.Preparing.{How, drafts, how, prepares_reading, reads, tries as tries_on}
-use Rattle.merge_client.proofs.Reading.{Paid, due_from, lent, member_of_it, parts_same, read_asking, read_called}
-use Rattle.merge_client.proofs.Trying.{Asks, IsGoing, asks_of, call, closes, going, merges, opens, renews, step_of}
+use Rattle.merge_client.proofs.ReadOn.{due_from}
+use Rattle.merge_client.proofs.Reading.{Paid, lent, member_of_it, parts_same, read_asking, read_called}
+use Rattle.merge_client.proofs.Going.{Asks, IsGoing, asks_of, closes, going, merges, opens, renews, step_of}
+use Rattle.merge_client.proofs.Trying.{call}
 
 -- the bound on the calls after a poll
 abbrev pub CostPoll : ℕ → ℕ → Compactor → Compactor → Poll MergeAnswer → Stored → List Entry → List Update → Type 0

@@ -58,9 +58,11 @@ use Rattle.merge_client.specs.declared.dues.Due.{Due}
 use Rattle.merge_client.specs.Following.{Follows}
 use Rattle.merge_client.specs.Merging.{IsOpen, IsReady, Moves, MovesAfterTry, MovesBy, Wants, WantsBy, after_poll, call_of, change_poll}
 use Rattle.merge_client.specs.Merging.{member_after, merge_poll, merge_refused, own_member, shard_of, verdict}
-use Rattle.merge_client.proofs.Reading.{read_on, read_wants}
-use Rattle.merge_client.proofs.Trying.{Asks, asks_of, call, closes, going, member_now, merges, no_later, opens, over_same, renews}
-use Rattle.merge_client.proofs.Trying.{try_goes, try_over, try_wants}
+use Rattle.merge_client.proofs.ReadOn.{read_on, read_wants}
+use Rattle.merge_client.proofs.Going.{Asks, asks_of, closes, going, merges, opens, renews}
+use Rattle.merge_client.proofs.Trying.{call, member_now, no_later, over_same}
+use Rattle.merge_client.proofs.Trying.{try_goes, try_over}
+use Rattle.merge_client.proofs.Wanting.{try_wants}
 
 pub is_there : {A : Type 0} (o : Option A) → IsSome o → (x : A) × (o ≡ Some x)
 is_there None h = absurd (let bad : false ≡ true = h in cc)

@@ -81,7 +81,7 @@ read_unused shard member token (calls.Get key) r (inr h) = h
 read_unused shard member token other r h = absurd r
 
 -- no state tells a pair without its parts
-never_told : (p : Pair) (s : ShardState) → look_by s (places_in s) ≡ looks.Answer (founds.Due p) → ⊥
+pub never_told : (p : Pair) (s : ShardState) → look_by s (places_in s) ≡ looks.Answer (founds.Due p) → ⊥
 never_told p s e = go (places_in s) e
   where
     no : founds.Nothing s.number ≡ founds.Due p → ⊥
@@ -397,77 +397,3 @@ module _ (client : ℕ) (c : Compactor) (start : Stored) (list : List Update) (e
         where
           called : 0 < trying.more c.storing.trying.calls
           called = (let is : trying.more c.storing.trying.calls ≡ min (c.storing.trying.calls + 1) most = refl in omega (arith, is))
-
-  -- ---- each reply
-
-  -- where a pair is told
-  pub due_from : (r : Reading Due) (p : Poll Found) → readings.Moves finding c.reading here r p → (pair : Pair) →
-      p ≡ polls.Done (founds.Due pair) → FromParts finding client r.course q start now Paid (founds.Due pair)
-  due_from r p moves pair is =
-      let x = read_so finding c.reading r here (polls.Done (founds.Due pair))
-      (subst (λ (z : Poll Found). readings.Moves finding c.reading here r z) is moves) in
-      let course_is : r.course ≡ x.course = ap (λ (z : Reading Due). z.course) x.now in
-      go (subst (λ (k : Course). Came finding client k x.q start now Paid (founds.Due pair)) (sym course_is)
-      (came finding is_question start list client c.reading.course x.q e others es
-      (sound_by finding c.reading x.q x.asked ready.sound.reading) read_is own of
-      (subst (λ (d : ShardId). StandsFor start d list) (sym lent.shard) st) lawful g.reading.shown
-      (let h = g.reading.asked in
-      subst (λ (o : Option Due). IfSome o (λ y. reading.FollowsAsked Keeper client c.reading.course start es)) x.asked h)
-      x.course (founds.Due pair) x.how)) (same_q x.q x.asked)
-    where
-      same_q : (k : Due) → c.reading.asked ≡ Some k → k ≡ q
-      same_q k is2 = (let two : Some k ≡ Some q = sym is2 ∙ some in cc)
-
-      go : {k : Due} → Came finding client r.course k start now Paid (founds.Due pair) → k ≡ q →
-          FromParts finding client r.course q start now Paid (founds.Due pair)
-      go (looked z h) same = absurd (never_told pair z h)
-      go (lapsed v h) same = absurd (let bad : founds.Due pair ≡ founds.Gone v = h in cc)
-      go (read from) same = subst (λ (y : Due). FromParts finding client r.course y start now Paid (founds.Due pair)) same from
-
-  pub read_on : (new : Compactor) (poll : Poll MergeAnswer) → MovesAfterRead c here new poll → Follows client new start now
-  read_on new poll (r, p, moves, poll_is, new_is) =
-      subst (λ (z : Compactor). Follows client z start now) (sym new_is)
-      (subst (λ (x : Poll MergeAnswer). Follows client (after_poll (taken_back (reading_on c r) p) x) start now) (sym poll_is) (by p refl))
-    where
-      stays : Stays (counted c.reading.course) r.course
-      stays = read_stays finding c.reading r here p moves
-
-      held : readings.Follows finding client r start now
-      held = read_keeps.follows client c.reading r e.call p list start e others es read_asking read_called moves
-
-      shard : r.course.loader.shard ≡ shard_of c
-      shard = stays.shard ∙ lent.shard
-
-      goes : GoesOn p → Follows client (reading_on c r) start now
-      goes on = read_goes r held (ap (λ (k : readings.ReadKept Due). k.asked) (read_kept finding c.reading r here p moves on) ∙ some)
-          stays.member stays.calls
-
-      over : (member : Option ℕ) → (member ≡ None) ⊎ (member ≡ c.member) →
-          Follows client (record (given_back (reading_on c r)) { pair = None; asked = None; member = member }) start now
-      over member how = read_over r shard held member how
-
-      undrafted : (z : Compactor) → z.pair ≡ None → Follows client (record z { pair = None }) start now → Follows client z start now
-      undrafted z is h = subst (λ (o : Option Pair). Follows client (record z { pair = o }) start now) (sym is) h
-
-      due : (pair : Pair) → p ≡ polls.Done (founds.Due pair) → Follows client (record (given_back (reading_on c r)) { pair = Some pair })
-          start now
-      due pair is = read_due r shard held pair (ended_none finding c.reading r here p moves (subst Ends (sym is) tt)) stays.member
-          (due_from r p moves pair is)
-
-      by : (x : Poll Found) → p ≡ x → Follows client (after_poll (taken_back (reading_on c r) x) (read_poll x)) start now
-      by polls.Busy is = goes (subst GoesOn (sym is) tt)
-      by polls.More is = goes (subst GoesOn (sym is) tt)
-      by polls.Fault is = goes (subst GoesOn (sym is) tt)
-      by polls.Spent is = undrafted (record (given_back (reading_on c r)) { asked = None }) ready.drafted (over c.member (inr refl))
-      by (polls.Damaged damage) is = undrafted (record (given_back (reading_on c r)) { asked = None }) ready.drafted
-          (over c.member (inr refl))
-      by (polls.Done (founds.Nothing version)) is = over c.member (inr refl)
-      by (polls.Done (founds.Due pair)) is = due pair is
-      by (polls.Done (founds.Gone version)) is = over None (inl refl)
-
-  pub read_wants : (new : Compactor) → new ≡ reading_on c (record c.reading { course = counted c.reading.course }) →
-      Follows client new start now
-  read_wants new is =
-      let r : Reading Due = record c.reading { course = counted c.reading.course } in
-      subst (λ (z : Compactor). Follows client z start now) (sym is)
-      (read_goes r (read_keeps.wanted_follows client c.reading r e.call list start e others es read_asking read_called refl) some refl refl)
