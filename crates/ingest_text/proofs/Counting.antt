@@ -69,7 +69,10 @@ module _ (f : IngestFeed) (c : Counts) (a : FeedAppend) (had : IsCounted (record
       (x ≡ with_append Here a) × IsCounted x (record c { end = a.upper })
   ended appends is = (
     λ i. record { feed = record f { appends = is i }; block = None },
-    subst (λ (as_ : List FeedAppend). IsCounted (record { feed = record f { appends = as_ }; block = None }) (record c { end = a.upper })) (sym is) counted_end,
+    subst (λ (as_ : List FeedAppend). IsCounted (record { feed = record f { appends = as_ }; block = None }) (record c {
+      end =
+          a.upper;
+    })) (sym is) counted_end,
   )
 
   -- a row
@@ -131,7 +134,13 @@ module _ (f : IngestFeed) (c : Counts) (q : FeedLine) (more : ℕ) (had : IsCoun
       light = had.light;
       listens = let listens = had.listens in omega (arith, listens, is_more, listens_on f.queries q, ap listens_in is);
       few_listens = few;
-      commands = let commands = had.commands in omega (arith, commands, ap (λ (qs : List FeedLine). length qs) is, length-append f.queries (q ∷ []));
+      commands = let commands = had.commands in omega (
+        arith,
+        commands,
+        ap (λ (qs : List FeedLine). length qs) is,
+        length-append
+            f.queries (q ∷ []),
+      );
       few_commands = omega (arith, room);
     },
   )

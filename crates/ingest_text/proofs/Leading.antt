@@ -130,7 +130,8 @@ after_free f line t h (inr (inr x)) = subst Holds (sym x.after) (record {
   listens = x.may.few;
 })
 
-after_dot : (f : IngestFeed) (a : FeedAppend) → Holds (record { feed = f; block = Some a }) → Holds (with_append (record { feed = f; block = Some a }) a)
+after_dot : (f : IngestFeed) (a : FeedAppend) → Holds (record { feed = f; block = Some a }) →
+    Holds (with_append (record { feed = f; block = Some a }) a)
 after_dot f a h = record {
   feed = feed_on f.appends a h.feed (record {
     begins = h.block.begins;

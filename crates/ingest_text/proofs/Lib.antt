@@ -3,3 +3,4 @@ pub mod Lines
 pub mod Blocks
 pub mod Counting
 pub mod Leading
+pub mod OneFeed

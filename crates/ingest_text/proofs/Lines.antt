@@ -18,19 +18,20 @@ only e = cc
 
 -- ---- no line is of two kinds
 
-query_no_append : (q : FeedLine) (line : List ℕ) (l : ℕ) (u : Option ℕ) → IsQuery q → command_lines q ≡ line ∷ [] → line ≡ append_line l u → ⊥
+pub query_no_append : (q : FeedLine) (line : List ℕ) (l : ℕ) (u : Option ℕ) → IsQuery q → command_lines q ≡ line ∷ [] →
+    line ≡ append_line l u → ⊥
 query_no_append (commands.Append a) line l u h e is = h
 query_no_append (commands.Snapshot t) line l u h e is = append_no_snapshot l u t (sym is ∙ only e)
 query_no_append (commands.Listen t) line l u h e is = append_no_listen l u t (sym is ∙ only e)
 query_no_append (commands.Since t) line l u h e is = h
 
-query_no_since : (q : FeedLine) (line : List ℕ) (to : ℕ) → IsQuery q → command_lines q ≡ line ∷ [] → line ≡ since_line to → ⊥
+pub query_no_since : (q : FeedLine) (line : List ℕ) (to : ℕ) → IsQuery q → command_lines q ≡ line ∷ [] → line ≡ since_line to → ⊥
 query_no_since (commands.Append a) line to h e is = h
 query_no_since (commands.Snapshot t) line to h e is = since_no_snapshot to t (sym is ∙ only e)
 query_no_since (commands.Listen t) line to h e is = listen_no_since t to (sym (only e) ∙ is)
 query_no_since (commands.Since t) line to h e is = h
 
-query_one : (q r : FeedLine) (line : List ℕ) → IsQuery q → IsQuery r → command_lines q ≡ line ∷ [] → command_lines r ≡ line ∷ [] → q ≡ r
+pub query_one : (q r : FeedLine) (line : List ℕ) → IsQuery q → IsQuery r → command_lines q ≡ line ∷ [] → command_lines r ≡ line ∷ [] → q ≡ r
 query_one (commands.Append a) r line h k e f = absurd h
 query_one (commands.Since t) r line h k e f = absurd h
 query_one q (commands.Append a) line h k e f = absurd k
@@ -53,7 +54,8 @@ module _ (s : Said) (line : List ℕ) where
   abbrev Short : Said → Type 0
   Short t = SinceLine s line t ⊎ QueryLine s line t
 
-  pub since_found : (to : ℕ) → to < 2 ^ 64 → line ≡ since_line to → (o : Option SoFar) → Does (s ≡ nothing) (with_since s to) o → Answers Short o
+  pub since_found : (to : ℕ) → to < 2 ^ 64 → line ≡ since_line to → (o : Option SoFar) → Does (s ≡ nothing) (with_since s to) o →
+      Answers Short o
   since_found to small is None h = go
     where
       go : (t : Said) → Short t → ⊥
@@ -73,7 +75,8 @@ module _ (s : Said) (line : List ℕ) where
   pub query_found : {E : Type 0} (q : FeedLine) → IsQuery q → command_lines q ≡ line ∷ [] → (r : Result (Option SoFar) E) →
       IfOk r (Does (MayAsk s.feed q) (with_query s q)) → IfOk r (Answers (λ t. QueryLine s line t))
   query_found q within is (Err e) h = tt
-  query_found q within is (Ok None) h = λ t x. h (subst (λ (p : FeedLine). MayAsk s.feed p) (query_one x.query q line x.within within x.text is) x.may)
+  query_found q within is (Ok None) h = λ t x. h (subst (λ (p : FeedLine). MayAsk s.feed p) (query_one x.query q line x.within
+      within x.text is) x.may)
   query_found q within is (Ok (Some x)) h = (record { query = q; within = within; text = is; may = h.0; after = h.1 }, h.2)
 
   pub no_query : ((q : FeedLine) → IsQuery q → command_lines q ≡ line ∷ [] → ⊥) → (t : Said) → QueryLine s line t → ⊥

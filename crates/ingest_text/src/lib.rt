@@ -5,6 +5,7 @@ mod counts;
 mod feeds;
 mod ingest_parsing;
 mod ingest_reading;
+pub mod laws;
 mod limits;
 mod rules;
 mod timed_lines;

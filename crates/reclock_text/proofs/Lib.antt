@@ -5,3 +5,4 @@ pub mod SourceWords
 pub mod Lines
 pub mod Leading
 pub mod Bindings
+pub mod OneFeed

@@ -17,12 +17,13 @@ use Rattle.reclock_text.proofs.SourceWords.{source_one}
 use Rattle.reclock_text.proofs.Words.{heads}
 
 -- no line says both
-not_both : (operators : ℕ) (line : List ℕ) (s : Saw) (r : SourceRow) → IsSawLine operators line s → line ≡ source_line r → ⊥
+pub not_both : (operators : ℕ) (line : List ℕ) (s : Saw) (r : SourceRow) → IsSawLine operators line s → line ≡ source_line r → ⊥
 not_both operators line s r is e = eqb-false 115 114 refl (heads (sym is.is ∙ e))
 
 -- what is answered of a line, by what takes it
 abbrev pub Found : {E : Type 0} → Result (Option SoFar) E → ℕ → ReclockFeed → List ℕ → Type 0
-Found r operators s line = IfOk r (λ found. MatchOption found ((t : ReclockFeed) → Takes operators s line t → ⊥) (λ x. Takes operators s line x.feed))
+Found r operators s line = IfOk r (λ found. MatchOption found ((t : ReclockFeed) → Takes operators s line t →
+    ⊥) (λ x. Takes operators s line x.feed))
 
 module _ (operators : ℕ) (s : SoFar) (line : List ℕ) where
   abbrev SawFound : Saw → Option SoFar → Type 0

@@ -1,5 +1,5 @@
 -- Pairs in a line: they are read one after another in one way.
-use Rattle.std.proofs.Common.{◌≡◌, ℕ, ◌+◌, ◌^◌, ◌<◌, List, [], ◌∷◌, ◌++◌, append-nil, refl, sym, subst, ◌∙◌, arith}
+use Rattle.std.proofs.Common.{◌≡◌, ℕ, ◌+◌, ◌^◌, ◌<◌, List, [], ◌∷◌, ◌++◌, append-nil, refl, sym, ap, subst, ◌∙◌, arith}
 use Rattle.std.specs.Prelude.{slice_set}
 use Rattle.std.specs.Fmt.{decimal}
 use Rattle.std.specs.List.{flat_map}
@@ -103,6 +103,23 @@ with_first word tail n f g a within is t = record {
   rises = (within, t.rises);
   gives = t.gives;
 }
+
+-- a text has one list of pairs
+pairs_one : (n : ℕ) (as_ bs : List (ℕ × ℕ)) → RisesFrom n as_ → RisesFrom n bs → flat_map pair_text as_ ≡ flat_map pair_text bs → as_ ≡ bs
+pairs_one n [] [] ha hb e = refl
+pairs_one n [] (b ∷ bs) ha hb e = absurd cc
+pairs_one n (a ∷ as_) [] ha hb e = absurd cc
+pairs_one n (a ∷ as_) (b ∷ bs) ha hb e =
+    let cut = cut_spaced (pair_word a) (pair_word b) (flat_map pair_text as_) (flat_map pair_text bs)
+    (pair_spaceless a (small_first n a ha.0) (small_second n a ha.0)) (pair_spaceless b (small_first n b hb.0) (small_second n b hb.0))
+    (pairs_spaced as_) (pairs_spaced bs) (tails e) in
+    let same : b ≡ a = pair_once b a (small_first n b hb.0) (small_second n b hb.0) (small_first n a ha.0) (small_second n a ha.0) (sym cut.0) in
+    let more = pairs_one (a.0 + 1) as_ bs ha.1 (subst (λ (x : ℕ × ℕ). RisesFrom (x.0 + 1) bs) same hb.1) cut.1 in
+    λ i. sym same i ∷ more i
+
+pub tells_one : (n : ℕ) (f g h : List ℕ) (text : List ℕ) → Tells text n f g → Tells text n f h → g ≡ h
+tells_one n f g h text x y =
+    x.gives ∙ ap (with_pairs f) (pairs_one n x.pairs y.pairs x.rises y.rises (sym x.text_is ∙ y.text_is)) ∙ sym y.gives
 
 -- ---- the loop
 

@@ -6,6 +6,7 @@ use Rattle.remap_core.specs.Offsets.{unset}
 use Rattle.feed_text.proofs.Cuts.{Lacks}
 use Rattle.reclock_text.specs.declared.saws.Saw.{Saw}
 use Rattle.reclock_text.specs.Saws.{IsSawLine, Tells}
+use Rattle.reclock_text.proofs.PairWords.{tells_one}
 use Rattle.reclock_text.proofs.Words.{NoFirstNumber, behind_once, number_once}
 
 pub saw_lacks : Lacks 32 (codes "saw")
@@ -54,3 +55,17 @@ module _ (operators : ℕ) (line : List ℕ) (bound : operators < 2 ^ 64) where
           tells = tells;
           is = cut ∙ ap (λ l. codes "saw" ++ 32 ∷ l) (cut_again ∙ ap (λ l. decimal k ++ 32 ∷ l) cut_third);
         }
+
+-- a line tells of one operator what it has seen
+pub saw_one : (operators : ℕ) (line : List ℕ) → operators < 2 ^ 64 → (s r : Saw) → IsSawLine operators line s → IsSawLine operators line r → s ≡ r
+saw_one operators line bound s r hs hr =
+    let behind_s : List ℕ = decimal s.time ++ 32 ∷ hs.pairs in
+    let behind_r : List ℕ = decimal r.time ++ 32 ∷ hr.pairs in
+    let lt_s = hs.operator in
+    let lt_r = hr.operator in
+    let rest = behind_once (codes "saw") (decimal s.operator ++ 32 ∷ behind_s) (decimal r.operator ++ 32 ∷ behind_r) saw_lacks (sym hs.is ∙ hr.is) in
+    let first = number_once s.operator r.operator behind_s behind_r (omega (arith, lt_s, bound)) (omega (arith, lt_r, bound)) rest in
+    let second = number_once s.time r.time hs.pairs hr.pairs hs.time hr.time first.1 in
+    let frontier : s.frontier ≡ r.frontier = tells_one 0 unset s.frontier r.frontier (32 ∷ hr.pairs)
+    (subst (λ (l : List ℕ). Tells (32 ∷ l) 0 unset s.frontier) second.1 hs.tells) hr.tells in
+    λ i. record { operator = first.0 i; time = second.0 i; frontier = frontier i }

@@ -22,7 +22,8 @@ small p h = omega (arith, h)
 pub no_row : (line : List ℕ) → ((rest : List ℕ) → line ≡ codes "row" ++ 32 ∷ rest → ⊥) → NoPart line
 no_row line none p rest h is = none (decimal p ++ 32 ∷ rest) is
 
-behind : (line rest : List ℕ) (p : ℕ) (tail : List ℕ) → line ≡ codes "row" ++ 32 ∷ rest → line ≡ part_line p tail → rest ≡ decimal p ++ 32 ∷ tail
+behind : (line rest : List ℕ) (p : ℕ) (tail : List ℕ) → line ≡ codes "row" ++ 32 ∷ rest → line ≡ part_line p tail →
+    rest ≡ decimal p ++ 32 ∷ tail
 behind line rest p tail cut is = behind_once (codes "row") rest (decimal p ++ 32 ∷ tail) row_lacks (sym cut ∙ is)
 
 pub no_partition : (line rest : List ℕ) → line ≡ codes "row" ++ 32 ∷ rest → NoFirstNumber rest → NoPart line
@@ -34,14 +35,17 @@ big_partition line rest more n cut fits told big p tail h is =
     let same = (number_once n p more tail fits (small p h) (sym told ∙ behind line rest p tail cut is)).0 in
     omega (arith, same, big, h)
 
-pub part_here : (line rest more : List ℕ) (n : ℕ) → line ≡ codes "row" ++ 32 ∷ rest → rest ≡ decimal n ++ 32 ∷ more → line ≡ part_line n more
+pub part_here : (line rest more : List ℕ) (n : ℕ) → line ≡ codes "row" ++ 32 ∷ rest → rest ≡ decimal n ++ 32 ∷ more →
+    line ≡ part_line n more
 part_here line rest more n cut told = cut ∙ ap (λ l. codes "row" ++ 32 ∷ l) told
 
 -- ---- the row behind it
 
-rest_is : (line rest tail : List ℕ) (p q : ℕ) → p < 256 → q < 256 → line ≡ part_line p rest → line ≡ part_line q tail → (p ≡ q) × (rest ≡ tail)
+rest_is : (line rest tail : List ℕ) (p q : ℕ) → p < 256 → q < 256 → line ≡ part_line p rest → line ≡ part_line q tail →
+    (p ≡ q) × (rest ≡ tail)
 rest_is line rest tail p q h k is e =
-    number_once p q rest tail (small p h) (small q k) (behind_once (codes "row") (decimal p ++ 32 ∷ rest) (decimal q ++ 32 ∷ tail) row_lacks (sym is ∙ e))
+    number_once p q rest tail (small p h) (small q k) (behind_once (codes "row") (decimal p ++ 32 ∷ rest) (decimal q ++ 32 ∷ tail)
+    row_lacks (sym is ∙ e))
 
 pub no_source_row : (line : List ℕ) → NoPart line → (r : SourceRow) → IsSourceRow r → line ≡ source_line r → ⊥
 no_source_row line none r is e = none r.partition (row_line (as_update r)) is.partition e
@@ -62,16 +66,22 @@ bad_offset line rest p u h is row told big r whole e =
 
 pub rest_lacks : (line rest : List ℕ) (p : ℕ) → line ≡ part_line p rest → Lacks 10 line → Lacks 10 rest
 rest_lacks line rest p is lacks =
-    (lacks_end 10 (decimal p) (32 ∷ rest) ((lacks_end 10 (codes "row") (32 ∷ (decimal p ++ 32 ∷ rest)) (subst (λ (l : List ℕ). Lacks 10 l) is lacks)).1)).1
+    (lacks_end 10 (decimal p) (32 ∷ rest) ((lacks_end 10 (codes "row") (32 ∷ (decimal p ++ 32 ∷ rest)) (subst (λ (l : List ℕ).
+    Lacks 10 l) is lacks)).1)).1
 
 -- what is found of the row behind its partition
 pub found_row : (line rest : List ℕ) (p : ℕ) (u : Update) (found : Option SourceRow) → p < 256 → line ≡ part_line p rest → IsRow u →
     rest ≡ row_line u →
-    MatchOption found (2 ^ 48 < u.time) (λ r. (r ≡ record { partition = p; offset = u.time; datum = u.datum; diff = u.diff }) × (u.time ≤ 2 ^ 48)) →
+    MatchOption found (2 ^ 48 < u.time) (λ r. (r ≡ record { partition = p; offset = u.time; datum = u.datum; diff = u.diff }) ×
+    (u.time ≤ 2 ^ 48)) →
     MatchOption found ((r : SourceRow) → IsSourceRow r → line ≡ source_line r → ⊥) (λ r. IsSourceRow r × (line ≡ source_line r))
 found_row line rest p u None h is row told big = bad_offset line rest p u h is row told big
 found_row line rest p u (Some r) h is row told e =
-    subst (λ k. IsSourceRow k × (line ≡ source_line k)) (sym e.0) (record { partition = h; offset = e.1; row = row }, is ∙ ap (λ l. part_line p l) told)
+    subst (λ k. IsSourceRow k × (line ≡ source_line k)) (sym e.0) (
+      record { partition = h; offset = e.1; row = row },
+      is ∙ ap (λ l.
+          part_line p l) told,
+    )
 
 -- a line is that of one row
 pub source_one : (line : List ℕ) (r s : SourceRow) → IsSourceRow r → IsSourceRow s → line ≡ source_line r → line ≡ source_line s → r ≡ s

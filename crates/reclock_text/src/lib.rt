@@ -2,6 +2,7 @@
 #![tactic(auto)]
 
 mod feeds;
+pub mod laws;
 mod limits;
 mod pairs;
 mod printing;

@@ -13,4 +13,5 @@ pub returns-in-Some-2 : goal.returns-in-Some-2
 returns-in-Some-2 c =
     let told = c.in-Some.ensures in
     let e = rw c.in-Some-2.is at c.in_ok-row-in-Some.ensures in
-    found_row c.args.line.now c.in-Some.rest.now c.in-Some.partition c.in-Some-2.update c.within.result told.0 told.1 e.0 e.1 c.within.ensures
+    found_row c.args.line.now c.in-Some.rest.now c.in-Some.partition c.in-Some-2.update c.within.result told.0 told.1 e.0 e.1
+    c.within.ensures
