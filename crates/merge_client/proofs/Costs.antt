@@ -1,21 +1,16 @@
 -- A poll of a compactor keeps its cost. Entries go newest first.
-use Rattle.std.proofs.Common.{◌≡◌, ◌⊎◌, ℕ, ◌+◌, ◌*◌, ◌<◌, ◌≤◌, true, false, Option, Some, None, List, ◌∷◌, ◌++◌, length, inl, inr, refl}
+use Rattle.std.proofs.Common.{◌≡◌, ℕ, ◌+◌, ◌<◌, ◌≤◌, Option, Some, None, List, ◌∷◌, ◌++◌, length, inl, inr, refl}
 use Rattle.std.proofs.Common.{sym, ap, subst, ◌∙◌, arith}
-use Rattle.std.specs.Prelude.{⊤, IfSome, IsSome}
-use Rattle.std.proofs.lemmas.List.{length-append}
 use Rattle.update_core.specs.declared.updates.Update.{Update}
-use Rattle.store_core.specs.declared.shards.ShardId.{ShardId}
 use Rattle.store_core.specs.declared.part_keys.PartKey.{PartKey}
-use Rattle.store_core.specs.declared.calls.Call.{Call}
 use Rattle.store_core.specs.declared.replies.Reply.{Reply}
 use Rattle.store_core.specs.declared.entries.Entry.{Entry}
 use Rattle.store_core.specs.Histories.{reply}
 use Rattle.store_core.specs.Stores.{Log, Stored}
 use Rattle.store_core.specs.Ports.{OfOthers}
 use Rattle.store_core.specs.Newest.{replay_back}
-use Rattle.state_core.specs.declared.kinds.Kind.TheVariants.{Keeper}
 use Rattle.state_core.specs.declared.transitions.Transition.{Transition}
-use Rattle.state_core.specs.declared.transitions.Transition.TheVariants.{Init, Join, Leave, Renew}
+use Rattle.state_core.specs.declared.transitions.Transition.TheVariants.{Init}
 use Rattle.state_core.specs.States.{ShardState}
 use Rattle.state_core.specs.VersionReading.{most}
 use Rattle.state_core.proofs.ListLemmas.{bool_cases}
@@ -25,7 +20,6 @@ use Rattle.history_core.specs.declared.merge_answers.MergeAnswer.{MergeAnswer}
 use Rattle.history_core.specs.Costs.{failed_calls, foreign_commits, merge_base, merge_parts, Within}
 use Rattle.history_core.specs.Discipline.{LawfulBack}
 use Rattle.history_core.specs.Stands.{StandsFor}
-use Rattle.load_core.specs.declared.nexts.Next.{Next}
 use Rattle.load_core.specs.declared.polls.Poll.{Poll}
 use Rattle.load_core.specs.declared.polls.Poll.TheVariants as polls
 use Rattle.load_core.specs.declared.tries.Tried.{Tried}
@@ -35,15 +29,12 @@ use Rattle.load_core.specs.Trying as trying
 use Rattle.load_core.proofs.TryFacts.{prepared_next}
 use Rattle.machine_core.specs.Machines.{GoesOn}
 use Rattle.machine_core.specs.Machines as machines
-use Rattle.read_machine.specs.declared.courses.Course.{Course}
 use Rattle.read_machine.specs.declared.readings.Reading.{Reading}
 use Rattle.read_machine.specs.declared.stages.Stage.{Stage}
 use Rattle.read_machine.specs.declared.stages.Stage.TheVariants as stages
-use Rattle.read_machine.specs.Courses.{counted}
-use Rattle.read_machine.specs.Following as reading
 use Rattle.read_machine.specs.Following.{OverStage, ReadCost}
 use Rattle.read_machine.specs.Readings as readings
-use Rattle.read_machine.proofs.Answers.{Came, FromParts, behind_foreign}
+use Rattle.read_machine.proofs.Answers.{FromParts, behind_foreign}
 use Rattle.token_machine.specs.declared.storings.Storing.{Storing}
 use Rattle.token_machine.specs.Storings as storing
 use Rattle.token_machine.proofs.Costs.{all_parts, storing_cost}
@@ -56,15 +47,15 @@ use Rattle.merge_client.specs.declared.pairs.Pair.{Pair}
 use Rattle.merge_client.specs.Finding.{finding}
 use Rattle.merge_client.specs.Following.{Follows}
 use Rattle.merge_client.specs.Machining.{machine}
-use Rattle.merge_client.specs.Merging.{IsReady, Moves, MovesAfterRead, MovesAfterTry, MovesBy, Prepares, after_poll, call_of, given_back}
+use Rattle.merge_client.specs.Merging.{IsReady, Moves, MovesAfterRead, MovesBy, Prepares, after_poll, call_of, given_back}
 use Rattle.merge_client.specs.Merging.{read_poll, reading_on, shard_of, taken_back, verdict}
 use Rattle.merge_client.specs.Polling.{CostAt, CostBy, CostOver, OverBy, base_of}
 use Rattle.merge_client.proofs.Asking.{read_keeps}
 use Rattle.merge_client.proofs.DuePairs.{found_so}
-use Rattle.merge_client.proofs.Preparing.{How, drafts, how, prepares_reading, reads, tries as tries_on}
+use Rattle.merge_client.proofs.Preparing.{How, drafts, how, reads, tries as tries_on}
 use Rattle.merge_client.proofs.ReadOn.{due_from}
-use Rattle.merge_client.proofs.Reading.{Paid, lent, member_of_it, parts_same, read_asking, read_called}
-use Rattle.merge_client.proofs.Going.{Asks, IsGoing, asks_of, closes, going, merges, opens, renews, step_of}
+use Rattle.merge_client.proofs.Reading.{Paid, member_of_it, parts_same, read_asking, read_called}
+use Rattle.merge_client.proofs.Going.{Asks, IsGoing, asks_of, closes, going, merges, opens, renews}
 use Rattle.merge_client.proofs.Trying.{call}
 
 -- the bound on the calls after a poll

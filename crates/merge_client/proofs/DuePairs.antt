@@ -1,7 +1,7 @@
 -- The pair that is due, in the state that named it and in later ones. Entries go newest first.
-use Rattle.std.proofs.Common.{◌≡◌, ◌⊎◌, ℕ, zero, suc, ◌+◌, ◌<◌, ◌≤◌, Bool, true, false, cond, ◌&&◌, Option, Some, None, List, [], ◌∷◌, ◌++◌}
-use Rattle.std.proofs.Common.{length, not, inl, inr, refl, sym, ap, subst, ◌∙◌, arith, append_assoc}
-use Rattle.std.specs.Prelude.{⊤, IsSomeAnd, nat_le}
+use Rattle.std.proofs.Common.{◌≡◌, ℕ, zero, suc, ◌+◌, ◌<◌, ◌≤◌, true, false, cond, ◌&&◌, Option, Some, None, List, [], ◌∷◌, ◌++◌}
+use Rattle.std.proofs.Common.{length, inl, inr, refl, sym, ap, subst, ◌∙◌, arith}
+use Rattle.std.specs.Prelude.{nat_le}
 use Rattle.std.specs.List.{AllByRecursion, slice_get}
 use Rattle.std.specs.Option.{option_map}
 use Rattle.std.proofs.lemmas.Bool.{leb-true}
@@ -11,30 +11,25 @@ use Rattle.update_core.specs.declared.updates.Update.{Update}
 use Rattle.spine_core.specs.declared.batches.Batch.{Batch}
 use Rattle.spine_core.specs.Places.{adjacent_place}
 use Rattle.spine_core.specs.Settled.{due_place, weights_of, with_next}
-use Rattle.store_core.specs.declared.part_keys.PartKey.{PartKey}
 use Rattle.store_core.specs.declared.shards.ShardId.{ShardId}
 use Rattle.store_core.specs.declared.entries.Entry.{Entry}
 use Rattle.store_core.specs.Stores.{Stored}
-use Rattle.store_core.specs.Ports.{Answered}
 use Rattle.store_core.specs.Newest.{mine_back, replay_back}
 use Rattle.state_core.specs.declared.members.Member.{Member}
 use Rattle.state_core.specs.declared.refusals.Refusal.{Refusal}
 use Rattle.state_core.specs.declared.refusals.Refusal.TheVariants as refusals
 use Rattle.state_core.specs.declared.transitions.Transition.{Transition}
 use Rattle.state_core.specs.declared.transitions.Transition.TheVariants.{Merge}
-use Rattle.state_core.specs.Lists.{Among}
 use Rattle.state_core.specs.Refusals.{follows, is_keeper, is_shaped, member_of, of_member, same_batch}
-use Rattle.state_core.specs.States.{IsState, Names, ShardState, keys_of}
-use Rattle.state_core.specs.VersionReading.{version_in}
+use Rattle.state_core.specs.States.{ShardState}
 use Rattle.state_core.proofs.ListLemmas.{bool_cases}
 use Rattle.state_core.proofs.Refused.{batch_same, mapped_some}
 use Rattle.state_core.proofs.Rising.{since_rises}
-use Rattle.state_core.proofs.VersionFacts.{version_in_state}
 use Rattle.history_core.specs.Discipline.{LawfulBack, ShowsState}
 use Rattle.history_core.specs.Histories.{ever}
 use Rattle.history_core.specs.Laws.{LastIs}
-use Rattle.history_core.specs.Stands.{BatchHolds, IsLast, PartRows, StandsFor, StateIn}
-use Rattle.history_core.proofs.Bases.{Base, base_of}
+use Rattle.history_core.specs.Stands.{BatchHolds, PartRows, StandsFor, StateIn}
+use Rattle.history_core.proofs.Bases.{base_of}
 use Rattle.history_core.proofs.Chains.{chain_rises, version_below, version_is}
 use Rattle.history_core.proofs.Contents.{part_rows_append, part_rows_one}
 use Rattle.history_core.proofs.Lasts.{last_ever}
@@ -42,10 +37,9 @@ use Rattle.history_core.proofs.Presence.{kept_at}
 use Rattle.history_core.proofs.Versions.{shows_ever}
 use Rattle.load_core.specs.Attempts.{standing_refusal}
 use Rattle.read_machine.specs.declared.looks.Look.TheVariants as looks
-use Rattle.merge_client.specs.declared.founds.Found.{Found}
 use Rattle.merge_client.specs.declared.founds.Found.TheVariants as founds
 use Rattle.merge_client.specs.declared.pairs.Pair.{Pair}
-use Rattle.merge_client.specs.Finding.{IsDueIn, found_at, found_by, look_at, look_by, places_in}
+use Rattle.merge_client.specs.Finding.{found_at, found_by, look_at, look_by, places_in}
 
 -- ---- the two batches
 

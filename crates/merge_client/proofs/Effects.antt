@@ -1,6 +1,6 @@
 -- What a call of a compactor commits, by what its poll comes to.
-use Rattle.std.proofs.Common.{◌≡◌, true, false, Option, Some, None, inl, inr, refl, sym, ap, subst, ◌∙◌}
-use Rattle.std.specs.Prelude.{⊤, IsSome, IsSomeAnd}
+use Rattle.std.proofs.Common.{◌≡◌, Option, Some, None, inl, inr, refl, sym, ap, subst}
+use Rattle.std.specs.Prelude.{IsSome, IsSomeAnd}
 use Rattle.store_core.specs.declared.shards.ShardId.{ShardId}
 use Rattle.store_core.specs.declared.calls.Call.{Call}
 use Rattle.store_core.specs.declared.replies.Reply.{Reply}
@@ -21,8 +21,6 @@ use Rattle.change_core.specs.declared.outcomes.Outcome.TheVariants as outcomes
 use Rattle.change_core.specs.Changes.{outcome}
 use Rattle.change_core.specs.Legality.{ChangeEffect}
 use Rattle.change_core.proofs.Coming.{change_effect}
-use Rattle.read_machine.specs.declared.readings.Reading.{Reading}
-use Rattle.read_machine.specs.Courses.{read_call}
 use Rattle.read_machine.specs.Readings as readings
 use Rattle.token_machine.specs.declared.storeds.Stored.{Stored as Came}
 use Rattle.token_machine.specs.declared.storeds.Stored.TheVariants as storeds
@@ -37,7 +35,7 @@ use Rattle.merge_client.specs.declared.dues.Due.{Due}
 use Rattle.merge_client.specs.declared.founds.Found.{Found}
 use Rattle.merge_client.specs.declared.founds.Found.TheVariants as founds
 use Rattle.merge_client.specs.Finding.{finding}
-use Rattle.merge_client.specs.Merging.{IsReady, Moves, MovesAfterRead, MovesAfterTry, MovesBy, call_by, call_of, change_poll, gone_answer}
+use Rattle.merge_client.specs.Merging.{IsReady, Moves, MovesBy, call_by, call_of, change_poll, gone_answer}
 use Rattle.merge_client.specs.Merging.{in_answer, merge_poll, merge_refused, own_member, read_poll, shard_of, verdict}
 use Rattle.merge_client.specs.Polling.{Effect}
 use Rattle.merge_client.proofs.Asking.{read_keeps}

@@ -1,25 +1,18 @@
 -- Where no call of a compactor's command failed and nobody else committed meanwhile, it has made few while it goes on.
-use Rattle.std.proofs.Common.{◌≡◌, ◌≢◌, ◌+◌, ◌*◌, ◌<◌, ◌≤◌, ◌^◌, ℕ, true, false, Option, Some, None, List, [], ◌∷◌, ◌++◌, length, inl, inr}
-use Rattle.std.proofs.Common.{refl, sym, ap, subst, ◌∙◌, arith}
+use Rattle.std.proofs.Common.{◌≡◌, ◌+◌, ◌*◌, ◌<◌, ◌≤◌, ◌^◌, ℕ, Option, Some, None, List, [], ◌∷◌, ◌++◌, length}
+use Rattle.std.proofs.Common.{refl, sym, ap, subst, arith}
 use Rattle.std.specs.Prelude.{IfSome, IsSome, IsSomeAnd}
-use Rattle.std.specs.List.{AllByRecursion}
 use Rattle.std.proofs.lemmas.List.Sums.{sum_by-cons}
-use Rattle.update_core.specs.declared.updates.Update.{Update}
 use Rattle.store_core.specs.declared.shards.ShardId.{ShardId}
 use Rattle.store_core.specs.declared.part_keys.PartKey.{PartKey}
-use Rattle.store_core.specs.declared.calls.Call.{Call}
-use Rattle.store_core.specs.declared.replies.Reply.{Reply}
-use Rattle.store_core.specs.declared.replies.Reply.TheVariants as replies
 use Rattle.store_core.specs.declared.entries.Entry.{Entry}
 use Rattle.store_core.specs.Stores.{Stored}
 use Rattle.store_core.specs.Ports.{Answered}
 use Rattle.store_core.specs.Newest.{mine_back}
-use Rattle.part_codec.proofs.Fields.{IsBytes}
 use Rattle.spine_core.specs.declared.batches.Batch.{Batch}
 use Rattle.spine_core.specs.Spines.{rows_of}
 use Rattle.state_core.specs.declared.kinds.Kind.TheVariants.{Keeper}
 use Rattle.state_core.specs.States.{ShardState}
-use Rattle.state_core.specs.VersionReading.{most}
 use Rattle.state_core.proofs.VersionFacts.{version_in_state}
 use Rattle.state_core.specs.declared.transitions.Transition.{Transition}
 use Rattle.state_core.specs.declared.transitions.Transition.TheVariants.{Init, Join, Leave, Renew}
@@ -27,54 +20,26 @@ use Rattle.update_core.specs.Updates.{moved}
 use Rattle.history_core.specs.Costs.{Within, failed_calls, foreign_commits, merge_base, merge_parts}
 use Rattle.history_core.specs.declared.asked.Asked.{Asked}
 use Rattle.history_core.specs.declared.asked.Asked.TheVariants as asks
-use Rattle.history_core.specs.declared.merge_answers.MergeAnswer.{MergeAnswer}
-use Rattle.history_core.specs.Discipline.{Allows, Hold, Holds, StoredAs}
-use Rattle.load_core.specs.declared.polls.Poll.{Poll}
-use Rattle.load_core.specs.declared.polls.Poll.TheVariants as polls
 use Rattle.load_core.specs.declared.tryings.Trying.{Trying}
 use Rattle.load_core.specs.Costing.{CostKept, log_after, remaining}
-use Rattle.load_core.specs.PartRows.{Spell}
-use Rattle.load_core.specs.Setting as setting
 use Rattle.load_core.specs.Trying as trying
-use Rattle.load_core.proofs.SettingFollows.{all_hold}
-use Rattle.machine_core.specs.Machines.{Asking, CostPoll, Ending, GoesOn, IsReading, Keeps}
-use Rattle.merge_core.specs.Drafting.{IsDraft, merged_rows}
-use Rattle.merge_core.proofs.Drafted.{draft_holds}
 use Rattle.merge_core.proofs.Lengths.{length-cons, length-moved}
-use Rattle.read_machine.specs.declared.readings.Reading.{Reading}
-use Rattle.read_machine.specs.Courses.{counted}
-use Rattle.read_machine.specs.Readings as readings
 use Rattle.read_machine.proofs.Keeping.{few_calls as few_read}
 use Rattle.read_machine.proofs.Parts.{few_keys, some_is}
-use Rattle.read_machine.proofs.Replied.{of_reads, reads_of}
-use Rattle.token_machine.specs.declared.storings.Storing.{Storing}
-use Rattle.token_machine.specs.Storings as storing
-use Rattle.token_machine.proofs.Ways.{same, scans_call, storing_allowed}
 use Rattle.merge_client.specs.declared.compactors.Compactor.{Compactor}
 use Rattle.merge_client.specs.declared.dues.Due.{Due}
-use Rattle.merge_client.specs.declared.founds.Found.{Found}
-use Rattle.merge_client.specs.declared.founds.Found.TheVariants as founds
 use Rattle.merge_client.specs.declared.pairs.Pair.{Pair}
 use Rattle.merge_client.specs.Finding.{finding}
-use Rattle.merge_client.specs.Following.{Follows, FollowsAsked, FollowsDraft, FollowsGot, FollowsMerge, FollowsRead, IsPairOf, Tries}
-use Rattle.merge_client.specs.Machining.{Ended, Kept, Moves, kept, machine}
+use Rattle.merge_client.specs.Following.{Follows, FollowsAsked, FollowsGot, FollowsMerge, FollowsRead, IsPairOf, Tries}
 use Rattle.merge_client.specs.Merging as merging
 use Rattle.merge_client.specs.Merging.{IsOpen, IsReady, MovesBy, Prepares, Wants, WantsBy, after_poll, call_by, call_of, given_back, pair_after}
 use Rattle.merge_client.specs.Merging.{reading_on, shard_of, taken_back}
-use Rattle.merge_client.specs.Polling.{CostAt, CostBy, CostOver, OverBy, base_of}
-use Rattle.merge_client.proofs.Asking.{is_question, read_keeps}
-use Rattle.merge_client.proofs.Costs.{cost_ready, next_prepared}
+use Rattle.merge_client.specs.Polling.{CostBy, base_of}
+use Rattle.merge_client.proofs.Asking.{is_question}
 use Rattle.merge_client.proofs.DuePairs.{found_so}
 use Rattle.merge_client.proofs.DueParts.{due_parts}
-use Rattle.merge_client.proofs.Effects.{effect_of}
-use Rattle.merge_client.proofs.Following.{follows_past, follows_spared}
-use Rattle.merge_client.proofs.Legality.{legal_step}
-use Rattle.merge_client.proofs.Moved.{is_there, moved_on, wants_on}
-use Rattle.merge_client.proofs.Preparing.{cost_prepared, prepared, prepares_calls, prepares_kept, prepares_reading}
-use Rattle.merge_client.proofs.Replied.{moved_busy, moved_fault, moved_more}
-use Rattle.merge_client.proofs.Shards.{shard_after}
-use Rattle.merge_client.proofs.Sound.{kept_storing}
-use Rattle.merge_client.proofs.Going.{Asks, asks_of, closes, keys_under, merges, none_left, opens, renews, step_of}
+use Rattle.merge_client.proofs.Moved.{is_there}
+use Rattle.merge_client.proofs.Going.{Asks, asks_of, closes, merges, opens, renews, step_of}
 
 two_rows : (before behind : List Batch) (l r : Batch) → l.rows + r.rows ≤ rows_of (before ++ l ∷ r ∷ behind)
 two_rows [] behind l r = omega (

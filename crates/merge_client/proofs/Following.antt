@@ -1,10 +1,8 @@
 -- What a compactor follows by goes on where nothing of it changes but what comes next. Entries go newest first.
-use Rattle.std.proofs.Common.{◌≡◌, ◌⊎◌, ℕ, ◌+◌, ◌<◌, Option, Some, None, List, [], ◌∷◌, ◌++◌, inl, inr, refl, sym, ap, subst, ◌∙◌}
-use Rattle.std.specs.Prelude.{⊤, IfSome, IsSome, IsSomeAnd}
+use Rattle.std.proofs.Common.{◌≡◌, ℕ, ◌<◌, Option, Some, None, List, ◌∷◌, ◌++◌, inl, inr, refl, sym, subst, ◌∙◌}
+use Rattle.std.specs.Prelude.{IfSome, IsSome, IsSomeAnd}
 use Rattle.std.specs.List.{AllByRecursion}
 use Rattle.store_core.specs.declared.shards.ShardId.{ShardId}
-use Rattle.store_core.specs.declared.part_keys.PartKey.{PartKey}
-use Rattle.store_core.specs.declared.calls.Call.{Call}
 use Rattle.store_core.specs.declared.entries.Entry.{Entry}
 use Rattle.store_core.specs.Histories.{reply}
 use Rattle.store_core.specs.Stores.{Stored}
@@ -15,11 +13,10 @@ use Rattle.state_core.specs.declared.transitions.Transition.{Transition}
 use Rattle.state_core.specs.declared.transitions.Transition.TheVariants.{Join, Leave, Renew}
 use Rattle.state_core.specs.Lists.{Among}
 use Rattle.state_core.specs.States.{ShardState}
-use Rattle.state_core.specs.VersionReading.{most}
 use Rattle.history_core.specs.declared.asked.Asked.{Asked}
 use Rattle.history_core.specs.declared.asked.Asked.TheVariants as asks
-use Rattle.history_core.specs.Discipline.{GotAs, Hold, ShowsState}
-use Rattle.history_core.specs.Placing.{Placed, places}
+use Rattle.history_core.specs.Discipline.{GotAs}
+use Rattle.history_core.specs.Placing.{Placed}
 use Rattle.history_core.specs.Upkeep.{TriesMerge}
 use Rattle.history_core.proofs.Gaining.{mine_gained, mine_others, places_others}
 use Rattle.load_core.specs.declared.nexts.Next.{Next}
@@ -27,13 +24,12 @@ use Rattle.load_core.specs.declared.nexts.Next.TheVariants as nexts
 use Rattle.load_core.specs.Following.{FollowsTrying}
 use Rattle.load_core.proofs.Following.{hold_on, shows_on, with_newest}
 use Rattle.read_machine.specs.Following.{IsRead}
-use Rattle.token_machine.specs.declared.storings.Storing.{Storing}
 use Rattle.token_machine.specs.Following.{Draws, UsesToken}
 use Rattle.token_machine.proofs.Following.{storing_past}
 use Rattle.merge_client.specs.declared.compactors.Compactor.{Compactor}
 use Rattle.merge_client.specs.declared.dues.Due.{Due}
 use Rattle.merge_client.specs.declared.pairs.Pair.{Pair}
-use Rattle.merge_client.specs.Following.{Follows, FollowsAsked, FollowsDraft, FollowsGot, FollowsMerge, FollowsRead, IsPairOf}
+use Rattle.merge_client.specs.Following.{Follows, FollowsAsked, FollowsMerge, IsPairOf}
 use Rattle.merge_client.specs.Following.{OnlyReads, Spares, Tries, WasTried}
 use Rattle.merge_client.specs.Merging.{shard_of}
 use Rattle.merge_client.proofs.Asking.{read_keeps}

@@ -1,99 +1,33 @@
 -- When an answer of a compactor's poll is legal, after one entry more. Entries go newest first.
-use Rattle.std.proofs.Common.{◌≡◌, ◌⊎◌, ℕ, ◌+◌, ◌<◌, Bool, true, false, Option, Some, None, List, [], ◌∷◌, ◌++◌, inl, inr, refl}
-use Rattle.std.proofs.Common.{sym, ap, subst, ◌∙◌, arith, ◌≢◌}
-use Rattle.std.specs.Prelude.{⊤, IfSome, IsSome, IsSomeAnd, unwrap_or}
+use Rattle.std.proofs.Common.{◌≡◌, ℕ, ◌<◌, Option, Some, List, ◌∷◌, ◌++◌}
+use Rattle.std.proofs.Common.{sym, ap, subst, ◌∙◌, arith}
+use Rattle.std.specs.Prelude.{IfSome, IsSomeAnd}
 use Rattle.update_core.specs.declared.updates.Update.{Update}
-use Rattle.spine_core.specs.declared.batches.Batch.{Batch}
-use Rattle.store_core.specs.declared.shards.ShardId.{ShardId}
-use Rattle.store_core.specs.declared.versions.Version.{Version}
-use Rattle.store_core.specs.declared.calls.Call.{Call}
-use Rattle.store_core.specs.declared.calls.Call.TheVariants as calls
 use Rattle.store_core.specs.declared.replies.Reply.{Reply}
 use Rattle.store_core.specs.declared.entries.Entry.{Entry}
 use Rattle.store_core.specs.Histories.{reply}
 use Rattle.store_core.specs.Stores.{Stored}
-use Rattle.store_core.specs.Ports.{Answered, OfOthers}
-use Rattle.store_core.specs.Newest.{mine_back, replay_back}
-use Rattle.state_core.specs.declared.kinds.Kind.TheVariants.{Keeper}
-use Rattle.state_core.specs.declared.members.Member.{Member}
-use Rattle.state_core.specs.declared.refusals.Refusal.{Refusal}
-use Rattle.state_core.specs.declared.refusals.Refusal.TheVariants as refusals
-use Rattle.state_core.specs.declared.transitions.Transition.{Transition}
-use Rattle.state_core.specs.declared.transitions.Transition.TheVariants.{Join, Leave, Merge, Renew}
-use Rattle.state_core.specs.Lists.{Among}
-use Rattle.state_core.specs.Refusals.{follows, is_keeper, is_shaped, member_of}
-use Rattle.state_core.specs.States.{ShardState}
+use Rattle.store_core.specs.Ports.{OfOthers}
+use Rattle.store_core.specs.Newest.{replay_back}
 use Rattle.state_core.specs.VersionReading.{most}
-use Rattle.state_core.proofs.ListLemmas.{among_map, bool_cases}
-use Rattle.state_core.proofs.VersionFacts.{version_in_shard, version_in_state}
 use Rattle.history_core.specs.declared.asked.Asked.{Asked}
-use Rattle.history_core.specs.declared.asked.Asked.TheVariants as asks
 use Rattle.history_core.specs.declared.merge_answers.MergeAnswer.{MergeAnswer}
-use Rattle.history_core.specs.declared.merge_answers.MergeAnswer.TheVariants as answers
-use Rattle.history_core.specs.Discipline.{LawfulBack, ShowsState}
-use Rattle.history_core.specs.Laws.{LastIs}
-use Rattle.history_core.specs.Legal.{Absent, AtLast, Full, HasMember, Left}
-use Rattle.history_core.specs.Members.{JoinedAs}
-use Rattle.history_core.specs.Placing.{AtLastScan, CommittedAs, IsAnsweredScan, Placed, placed, places}
+use Rattle.history_core.specs.Discipline.{LawfulBack}
+use Rattle.history_core.specs.Placing.{Placed, placed, places}
 use Rattle.history_core.specs.Stands.{StandsFor}
-use Rattle.history_core.specs.Upkeep.{HasKeeper, KeeperJoined, LegalMergeAt, LegalMergeBack, LegalOfCompactor, MergedAs, NoneIsDue, TriesMerge}
+use Rattle.history_core.specs.Upkeep.{LegalMergeAt, LegalMergeBack, LegalOfCompactor}
 use Rattle.history_core.proofs.Entries.{lawful_older}
-use Rattle.history_core.proofs.Gaining.{mine_others, places_gained, places_others}
-use Rattle.history_core.proofs.StateFacts.{state_shard}
-use Rattle.load_core.specs.declared.nexts.Next.{Next}
-use Rattle.load_core.specs.declared.nexts.Next.TheVariants as nexts
+use Rattle.history_core.proofs.Gaining.{places_gained, places_others}
 use Rattle.load_core.specs.declared.polls.Poll.{Poll}
 use Rattle.load_core.specs.declared.polls.Poll.TheVariants as polls
-use Rattle.load_core.specs.declared.readies.Ready.{Ready}
-use Rattle.load_core.specs.declared.tries.Tried.{Tried}
-use Rattle.load_core.specs.declared.tries.Tried.TheVariants as tries
-use Rattle.load_core.specs.declared.tryings.Trying.{Trying}
-use Rattle.load_core.specs.Attempts.{standing_refusal}
-use Rattle.load_core.specs.Outcomes.{Newest}
 use Rattle.load_core.specs.Trying as trying
 use Rattle.load_core.proofs.Runs.{next_calls}
-use Rattle.load_core.proofs.SettingFollows.{next_is}
-use Rattle.change_core.specs.declared.outcomes.Outcome.{Outcome}
-use Rattle.change_core.specs.declared.outcomes.Outcome.TheVariants as outcomes
-use Rattle.change_core.specs.Changes.{IsAnswerTo, IsChange, IsOfMember, number_of, outcome}
-use Rattle.change_core.specs.Legality.{ChangesAt, JoinedIn, LegalChange}
-use Rattle.change_core.proofs.Coming.{change_answered, change_legal}
-use Rattle.change_core.proofs.Members.{found_kind, found_stands, kind_back, none_stands}
 use Rattle.machine_core.specs.Machines as machines
-use Rattle.merge_core.specs.declared.drafts.Owner.{Owner}
-use Rattle.merge_core.specs.Drafting.{IsDraft, merged_batch, merged_rows}
-use Rattle.merge_core.proofs.Drafted.{draft_is_shaped}
-use Rattle.read_machine.specs.declared.readings.Reading.{Reading}
-use Rattle.read_machine.specs.Readings as readings
-use Rattle.token_machine.specs.declared.storeds.Stored.{Stored as Came}
-use Rattle.token_machine.specs.declared.storeds.Stored.TheVariants as storeds
-use Rattle.token_machine.specs.declared.storings.Storing.{Storing}
-use Rattle.token_machine.specs.Following.{Draws, Lower}
-use Rattle.token_machine.specs.Legality.{LegalStored, StoresAt}
-use Rattle.token_machine.specs.Outcomes.{IsInAs, IsTokenOld, stored}
-use Rattle.token_machine.specs.Storings as storing
-use Rattle.token_machine.specs.Storings.{sets}
-use Rattle.token_machine.proofs.Members.{at_end}
-use Rattle.token_machine.proofs.Merges.{merge_in}
-use Rattle.token_machine.proofs.Once.{legal}
-use Rattle.token_machine.proofs.Ways.{SetWay, Way, call_false, call_true, fails, goes, same, set, set_way, try, way}
 use Rattle.merge_client.specs.declared.compactors.Compactor.{Compactor}
-use Rattle.merge_client.specs.declared.dues.Due.{Due}
-use Rattle.merge_client.specs.declared.founds.Found.{Found}
-use Rattle.merge_client.specs.declared.founds.Found.TheVariants as founds
-use Rattle.merge_client.specs.declared.pairs.Pair.{Pair}
-use Rattle.merge_client.specs.Finding.{finding}
-use Rattle.merge_client.specs.Following.{Follows, FollowsDraft, WasTried}
+use Rattle.merge_client.specs.Following.{Follows}
 use Rattle.merge_client.specs.Machining.{command_in, kept, machine}
-use Rattle.merge_client.specs.Merging.{IsReady, Moves, MovesAfterRead, MovesBy, after_poll, call_of, change_poll, merge_poll, merge_refused}
-use Rattle.merge_client.specs.Merging.{newest_number, own_member, owner, read_poll, shard_of, verdict}
-use Rattle.merge_client.proofs.Asking.{read_keeps}
-use Rattle.merge_client.proofs.DuePairs.{Why, absent, apart, found_so, old, shape, since_back, unfit, why}
-use Rattle.merge_client.proofs.Preparing.{draft_free}
-use Rattle.merge_client.proofs.ReadLegality.{nothing_legal}
-use Rattle.merge_client.proofs.Reading.{lent, member_of_it, read_asking, read_called}
-use Rattle.merge_client.proofs.Going.{Asks, asks_of, closes, merges, opens, renews, step_of}
-use Rattle.merge_client.proofs.Trying.{call, stores_at}
+use Rattle.merge_client.specs.Merging.{IsReady, call_of}
+use Rattle.merge_client.specs.Merging.{shard_of}
 
 module _ (client : ℕ) (c new : Compactor) (start : Stored) (list : List Update) (e : Entry) (others es : List Entry)
     (ready : IsReady c) (own : e.client ≡ client) (call_is : call_of c ≡ Some e.call) (of : OfOthers client others)

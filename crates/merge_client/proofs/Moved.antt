@@ -1,7 +1,7 @@
 -- A compactor follows from its client's own entries after each reply. Entries go newest first.
-use Rattle.std.proofs.Common.{◌≡◌, ◌⊎◌, ℕ, ◌+◌, ◌<◌, Bool, true, false, Option, Some, None, List, ◌∷◌, ◌++◌, inl, inr, refl, sym, ap}
-use Rattle.std.proofs.Common.{subst, ◌∙◌, arith, ◌&&◌}
-use Rattle.std.specs.Prelude.{⊤, IfSome, IsSome, ◌==◌}
+use Rattle.std.proofs.Common.{◌≡◌, ℕ, ◌+◌, true, false, Option, Some, None, List, ◌∷◌, ◌++◌, inl, inr, refl, sym, ap}
+use Rattle.std.proofs.Common.{subst, ◌∙◌, arith}
+use Rattle.std.specs.Prelude.{IfSome, IsSome}
 use Rattle.update_core.specs.declared.updates.Update.{Update}
 use Rattle.store_core.specs.declared.shards.ShardId.{ShardId}
 use Rattle.store_core.specs.declared.calls.Call.{Call}
@@ -10,18 +10,16 @@ use Rattle.store_core.specs.declared.replies.Reply.{Reply}
 use Rattle.store_core.specs.declared.entries.Entry.{Entry}
 use Rattle.store_core.specs.Histories.{reply}
 use Rattle.store_core.specs.Stores.{Stored}
-use Rattle.store_core.specs.Ports.{Answered, OfOthers, answered}
+use Rattle.store_core.specs.Ports.{Answered, OfOthers}
 use Rattle.store_core.specs.Newest.{mine_back, replay_back}
 use Rattle.state_core.specs.declared.kinds.Kind.TheVariants.{Keeper}
 use Rattle.state_core.specs.declared.refusals.Refusal.{Refusal}
 use Rattle.state_core.specs.declared.refusals.Refusal.TheVariants as refusals
 use Rattle.state_core.specs.declared.transitions.Transition.{Transition}
-use Rattle.state_core.specs.declared.transitions.Transition.TheVariants.{Join, Leave, Renew}
-use Rattle.state_core.specs.Lists.{Among}
+use Rattle.state_core.specs.declared.transitions.Transition.TheVariants.{Join}
 use Rattle.state_core.specs.States.{ShardState}
 use Rattle.state_core.specs.Steps.{Applies}
 use Rattle.state_core.specs.VersionReading.{version_in}
-use Rattle.state_core.proofs.ListLemmas.{bool_cases}
 use Rattle.history_core.specs.declared.asked.Asked.{Asked}
 use Rattle.history_core.specs.declared.asked.Asked.TheVariants as asks
 use Rattle.history_core.specs.declared.merge_answers.MergeAnswer.{MergeAnswer}
@@ -38,29 +36,28 @@ use Rattle.load_core.specs.declared.polls.Poll.TheVariants as polls
 use Rattle.load_core.specs.declared.tries.Tried.{Tried}
 use Rattle.load_core.specs.declared.tries.Tried.TheVariants as tries
 use Rattle.load_core.specs.declared.tryings.Trying.{Trying}
-use Rattle.load_core.specs.Trying as trying
 use Rattle.load_core.proofs.Gaining.{lawful_before}
 use Rattle.load_core.proofs.Outcomes.{committed_here}
 use Rattle.change_core.specs.declared.outcomes.Outcome.TheVariants as outcomes
 use Rattle.token_machine.specs.declared.storeds.Stored.TheVariants as storeds
-use Rattle.change_core.specs.Changes.{committed_outcome, last_member, outcome}
+use Rattle.change_core.specs.Changes.{committed_outcome, last_member}
 use Rattle.change_core.proofs.Forms.{refused_as}
 use Rattle.machine_core.specs.Machines.{GoesOn}
 use Rattle.token_machine.specs.declared.storeds.Stored.{Stored as Came}
 use Rattle.token_machine.specs.declared.storings.Storing.{Storing}
-use Rattle.token_machine.specs.Following.{Draws, UsesToken}
-use Rattle.token_machine.specs.Outcomes.{stored, token_outcome}
+use Rattle.token_machine.specs.Following.{Draws}
+use Rattle.token_machine.specs.Outcomes.{token_outcome}
 use Rattle.token_machine.specs.Storings as storing
 use Rattle.token_machine.proofs.Members.{token_owned}
-use Rattle.token_machine.proofs.Ways.{IsEnding, IsTried, call_false, same, tried_way}
+use Rattle.token_machine.proofs.Ways.{call_false, same, tried_way}
 use Rattle.merge_client.specs.declared.compactors.Compactor.{Compactor}
 use Rattle.merge_client.specs.declared.dues.Due.{Due}
 use Rattle.merge_client.specs.Following.{Follows}
-use Rattle.merge_client.specs.Merging.{IsOpen, IsReady, Moves, MovesAfterTry, MovesBy, Wants, WantsBy, after_poll, call_of, change_poll}
-use Rattle.merge_client.specs.Merging.{member_after, merge_poll, merge_refused, own_member, shard_of, verdict}
+use Rattle.merge_client.specs.Merging.{IsOpen, IsReady, Moves, MovesBy, Wants, WantsBy, after_poll, call_of, change_poll}
+use Rattle.merge_client.specs.Merging.{merge_poll, merge_refused, own_member, shard_of, verdict}
 use Rattle.merge_client.proofs.ReadOn.{read_on, read_wants}
 use Rattle.merge_client.proofs.Going.{Asks, asks_of, closes, going, merges, opens, renews}
-use Rattle.merge_client.proofs.Trying.{call, member_now, no_later, over_same}
+use Rattle.merge_client.proofs.Trying.{call, no_later, over_same}
 use Rattle.merge_client.proofs.Trying.{try_goes, try_over}
 use Rattle.merge_client.proofs.Wanting.{try_wants}
 

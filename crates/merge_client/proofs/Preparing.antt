@@ -1,8 +1,7 @@
 -- What preparing the next call leaves of a compactor, and what it follows by then. Entries go newest first.
-use Rattle.std.proofs.Common.{◌≡◌, ◌⊎◌, ℕ, ◌+◌, ◌*◌, ◌<◌, ◌≤◌, true, false, Option, Some, None, List, [], ◌∷◌, ◌++◌, length, inl, inr, refl}
+use Rattle.std.proofs.Common.{◌≡◌, ℕ, ◌+◌, ◌*◌, ◌<◌, ◌≤◌, true, Option, Some, None, List, length, inr, refl}
 use Rattle.std.proofs.Common.{sym, ap, subst, ◌∙◌, arith}
-use Rattle.std.specs.Prelude.{⊤, IfSome, IsSome, IsSomeAnd, unwrap_or}
-use Rattle.std.specs.List.{AllByRecursion}
+use Rattle.std.specs.Prelude.{IfSome, IsSomeAnd, unwrap_or}
 use Rattle.update_core.specs.declared.updates.Update.{Update}
 use Rattle.spine_core.specs.declared.batches.Batch.{Batch}
 use Rattle.store_core.specs.declared.shards.ShardId.{ShardId}
@@ -12,22 +11,20 @@ use Rattle.store_core.specs.declared.entries.Entry.{Entry}
 use Rattle.store_core.specs.Stores.{Log, Stored}
 use Rattle.store_core.specs.Ports.{Answered}
 use Rattle.store_core.specs.Newest.{mine_back}
-use Rattle.state_core.specs.declared.kinds.Kind.{Kind}
 use Rattle.state_core.specs.declared.kinds.Kind.TheVariants.{Keeper}
-use Rattle.state_core.specs.declared.refusals.Refusal.{Refusal}
 use Rattle.state_core.specs.declared.transitions.Transition.{Transition}
-use Rattle.state_core.specs.declared.transitions.Transition.TheVariants.{Init, Join, Leave, Merge, Renew}
+use Rattle.state_core.specs.declared.transitions.Transition.TheVariants.{Init, Leave, Merge, Renew}
 use Rattle.state_core.specs.Refusals.{follows, is_keeper, is_shaped}
 use Rattle.state_core.specs.States.{ShardState}
-use Rattle.state_core.specs.Steps.{AreKeys, acts_for}
+use Rattle.state_core.specs.Steps.{acts_for}
 use Rattle.state_core.specs.VersionReading.{most}
 use Rattle.state_core.proofs.ListLemmas.{each_map}
 use Rattle.state_core.proofs.VersionFacts.{version_in_shard, version_in_state}
 use Rattle.history_core.specs.declared.asked.Asked.{Asked}
 use Rattle.history_core.specs.declared.asked.Asked.TheVariants as asks
 use Rattle.history_core.specs.Costs.{failed_calls, foreign_commits, merge_base, merge_parts, Within}
-use Rattle.history_core.specs.Discipline.{Owns, OwnsSome, ShowsState}
-use Rattle.history_core.specs.Placing.{Commits, Placed, places}
+use Rattle.history_core.specs.Discipline.{Owns, OwnsSome}
+use Rattle.history_core.specs.Placing.{Placed, places}
 use Rattle.load_core.specs.declared.attempts.Attempt.{Attempt}
 use Rattle.load_core.specs.declared.attempts.Attempt.TheVariants as attempts
 use Rattle.load_core.specs.declared.nexts.Next.{Next}
@@ -35,11 +32,10 @@ use Rattle.load_core.specs.declared.nexts.Next.TheVariants as nexts
 use Rattle.load_core.specs.declared.tryings.Trying.{Trying}
 use Rattle.load_core.specs.Attempts.{Attempts, standing_refusal}
 use Rattle.load_core.specs.Costing.{CostKept, calls_from_attempt, log_after}
-use Rattle.load_core.specs.Following.{FollowsLoading, FollowsTrying}
-use Rattle.load_core.specs.Runs.{AllCarry, OnlyCarries}
+use Rattle.load_core.specs.Following.{FollowsTrying}
+use Rattle.load_core.specs.Runs.{OnlyCarries}
 use Rattle.load_core.specs.Trying as trying
 use Rattle.load_core.proofs.Following.{prepared_follows}
-use Rattle.load_core.proofs.TryFacts.{prepares_is}
 use Rattle.merge_core.specs.declared.drafts.MergeDraft.{MergeDraft}
 use Rattle.merge_core.specs.Drafting.{IsDraft, merged_batch, merged_rows}
 use Rattle.merge_core.proofs.Drafted.{draft_is_shaped}
@@ -55,13 +51,13 @@ use Rattle.token_machine.proofs.Ways.{prepares_same}
 use Rattle.merge_client.specs.declared.compactors.Compactor.{Compactor}
 use Rattle.merge_client.specs.declared.dues.Due.{Due}
 use Rattle.merge_client.specs.declared.pairs.Pair.{Pair}
-use Rattle.merge_client.specs.Following.{Follows, FollowsAsked, FollowsDraft, FollowsGot, FollowsMerge, IsPairOf, OnlyReads}
+use Rattle.merge_client.specs.Following.{Follows, FollowsAsked, FollowsDraft, FollowsGot, FollowsMerge, IsPairOf}
 use Rattle.merge_client.specs.Following.{Tries, WasTried}
 use Rattle.merge_client.specs.Machining.{kept}
 use Rattle.merge_client.specs.Merging.{Prepares, PreparesBy, PreparesPair, own_member, owner, shard_of}
 use Rattle.merge_client.specs.Polling.{CostAt, CostBy, base_of}
-use Rattle.merge_client.proofs.Following.{Alike, asked_on}
-use Rattle.merge_client.proofs.DuePairs.{Found_so, follows_there, found_so, no_refusal}
+use Rattle.merge_client.proofs.Following.{asked_on}
+use Rattle.merge_client.proofs.DuePairs.{follows_there, found_so, no_refusal}
 
 -- how the next call is prepared: a reading's is; what is tried is tried on the newest state; a pair is drafted before
 pub data How (old new : Compactor) : Type 0 where

@@ -1,7 +1,7 @@
 -- What a reading of the pair that is due comes to is legal for a compactor. Entries go newest first.
-use Rattle.std.proofs.Common.{◌≡◌, ◌⊎◌, ℕ, ◌+◌, ◌<◌, Bool, true, false, cond, Option, Some, None, List, [], ◌∷◌, ◌++◌, inl, inr, refl}
+use Rattle.std.proofs.Common.{◌≡◌, ℕ, ◌+◌, ◌<◌, Bool, true, false, Option, Some, None, List, [], ◌∷◌, ◌++◌, refl}
 use Rattle.std.proofs.Common.{sym, ap, subst, ◌∙◌, arith}
-use Rattle.std.specs.Prelude.{⊤, IfSome, IsSome, IsSomeAnd}
+use Rattle.std.specs.Prelude.{⊤, IfSome, IsSomeAnd}
 use Rattle.std.specs.List.{slice_get}
 use Rattle.std.specs.Option.{option_map}
 use Rattle.update_core.specs.declared.updates.Update.{Update}
@@ -10,14 +10,13 @@ use Rattle.spine_core.specs.Settled.{due_place, weights_of, with_next}
 use Rattle.store_core.specs.declared.shards.ShardId.{ShardId}
 use Rattle.store_core.specs.declared.part_keys.PartKey.{PartKey}
 use Rattle.store_core.specs.declared.versions.Version.{Version}
-use Rattle.store_core.specs.declared.calls.Call.{Call}
 use Rattle.store_core.specs.declared.replies.Reply.{Reply}
 use Rattle.store_core.specs.declared.replies.Reply.TheVariants as replies
 use Rattle.store_core.specs.declared.entries.Entry.{Entry}
 use Rattle.store_core.specs.Histories.{reply}
 use Rattle.store_core.specs.Stores.{Stored}
 use Rattle.store_core.specs.Ports.{Answered, OfOthers}
-use Rattle.store_core.specs.Newest.{mine_back, replay_back}
+use Rattle.store_core.specs.Newest.{replay_back}
 use Rattle.state_core.specs.declared.kinds.Kind.TheVariants.{Keeper}
 use Rattle.state_core.specs.declared.members.Member.{Member}
 use Rattle.state_core.specs.Refusals.{member_of}
@@ -46,7 +45,7 @@ use Rattle.read_machine.specs.declared.looks.Look.TheVariants as looks
 use Rattle.read_machine.specs.declared.readings.Reading.{Reading}
 use Rattle.read_machine.specs.declared.sights.Sight.{Sight}
 use Rattle.read_machine.specs.declared.sights.Sight.TheVariants as sights
-use Rattle.read_machine.specs.Courses.{GoesBy, MovesByFetched, counted, expired, holding, missing_poll, rows_by, rows_poll, sight_of, sight_poll}
+use Rattle.read_machine.specs.Courses.{MovesByFetched, counted, holding, missing_poll, rows_by, sight_of, sight_poll}
 use Rattle.read_machine.specs.Following as reading
 use Rattle.read_machine.specs.Readings as readings
 use Rattle.read_machine.specs.declared.stages.Stage.TheVariants as stages

@@ -1,7 +1,7 @@
 -- A compactor follows from its client's own entries after one more call of the reading of the pair that is due. Entries go newest first.
-use Rattle.std.proofs.Common.{◌≡◌, ◌⊎◌, ℕ, suc, ◌+◌, ◌<◌, ◌≤◌, true, false, Option, Some, None, List, [], ◌∷◌, ◌++◌, length, inl, inr, min}
+use Rattle.std.proofs.Common.{◌≡◌, ◌⊎◌, ℕ, suc, ◌+◌, ◌<◌, ◌≤◌, Option, Some, None, List, ◌∷◌, ◌++◌, length, inl, inr, min}
 use Rattle.std.proofs.Common.{refl, sym, ap, subst, ◌∙◌, arith}
-use Rattle.std.specs.Prelude.{⊤, IfSome, IsSome, IsSomeAnd, nat_le}
+use Rattle.std.specs.Prelude.{IfSome, IsSome, IsSomeAnd}
 use Rattle.std.specs.List.{AllByRecursion, slice_get}
 use Rattle.std.proofs.lemmas.Bool.Decides.{leb_tells}
 use Rattle.update_core.specs.declared.updates.Update.{Update}
@@ -17,45 +17,35 @@ use Rattle.store_core.specs.Stores.{Stored}
 use Rattle.store_core.specs.Ports.{Answered, OfOthers, answered}
 use Rattle.store_core.specs.Newest.{mine_back, replay_back}
 use Rattle.state_core.specs.declared.kinds.Kind.TheVariants.{Keeper}
-use Rattle.state_core.specs.declared.members.Member.{Member}
 use Rattle.state_core.specs.Lists.{Among}
 use Rattle.state_core.specs.Refusals.{member_of}
 use Rattle.state_core.specs.States.{ShardState}
 use Rattle.state_core.specs.Steps.{acts_for}
 use Rattle.state_core.specs.VersionReading.{most}
-use Rattle.history_core.specs.declared.asked.Asked.{Asked}
 use Rattle.history_core.specs.declared.asked.Asked.TheVariants as asks
 use Rattle.history_core.specs.Discipline.{GotAs, Hold, IsCasUnder, IsGot, LawfulBack, OwnsSome, ShowsState}
 use Rattle.history_core.specs.Laws.{LastIs}
-use Rattle.history_core.specs.Members.{JoinedAs}
-use Rattle.history_core.specs.Placing.{Placed, placed, places}
+use Rattle.history_core.specs.Placing.{Placed, places}
 use Rattle.history_core.specs.Stands.{PartRows, StandsFor}
 use Rattle.history_core.proofs.Gaining.{mine_gained, places_gained}
 use Rattle.history_core.proofs.LawfulLaws.{lawful_of_older}
-use Rattle.history_core.specs.declared.merge_answers.MergeAnswer.{MergeAnswer}
 use Rattle.state_core.proofs.ListLemmas.{among_map}
-use Rattle.load_core.specs.declared.polls.Poll.{Poll}
-use Rattle.load_core.specs.declared.polls.Poll.TheVariants as polls
-use Rattle.load_core.specs.Following.{FollowsLoading, FollowsTrying}
+use Rattle.load_core.specs.Following.{FollowsTrying}
 use Rattle.load_core.specs.Trying as trying
 use Rattle.load_core.proofs.Following.{hold_on, shows_on, with_newest}
 use Rattle.load_core.proofs.Runs.{next_calls}
 use Rattle.change_core.proofs.Members.{found_kind, found_stands, kind_back}
-use Rattle.machine_core.specs.Machines.{Asking, Called, GoesOn}
+use Rattle.machine_core.specs.Machines.{Asking, Called}
 use Rattle.read_machine.specs.declared.looks.Look.{Look}
 use Rattle.read_machine.specs.declared.looks.Look.TheVariants as looks
-use Rattle.read_machine.specs.declared.courses.Course.{Course}
 use Rattle.read_machine.specs.declared.readings.Reading.{Reading}
-use Rattle.read_machine.specs.Courses.{counted, read_call}
-use Rattle.read_machine.specs.Following as reading
+use Rattle.read_machine.specs.Courses.{read_call}
 use Rattle.read_machine.specs.Following.{IsRead, ReadCost}
 use Rattle.read_machine.specs.Readings as readings
-use Rattle.read_machine.proofs.Answers.{Came, FromParts, among_before, among_since, came, held_then, lapsed, looked, read}
+use Rattle.read_machine.proofs.Answers.{FromParts, among_before, among_since, held_then}
 use Rattle.read_machine.proofs.Parts.{some_is}
-use Rattle.read_machine.proofs.Replied.{ended_none, more_kept as read_kept, of_reads, read_so, read_stays, reads_of, sound_by}
-use Rattle.read_machine.proofs.Sound.{Ends}
+use Rattle.read_machine.proofs.Replied.{of_reads, reads_of}
 use Rattle.read_machine.proofs.Undamaged.{last_then}
-use Rattle.read_machine.proofs.Ways.{Stays}
 use Rattle.token_machine.specs.Following.{Draws, UsesToken}
 use Rattle.token_machine.proofs.Members.{joined_owns}
 use Rattle.token_machine.proofs.Spendings.{own_under}
@@ -65,10 +55,10 @@ use Rattle.merge_client.specs.declared.founds.Found.{Found}
 use Rattle.merge_client.specs.declared.founds.Found.TheVariants as founds
 use Rattle.merge_client.specs.declared.pairs.Pair.{Pair}
 use Rattle.merge_client.specs.Finding.{finding, found_by, look_at, look_by, places_in}
-use Rattle.merge_client.specs.Following.{Follows, FollowsAsked, FollowsGot, FollowsMerge, FollowsRead, IsPairOf, OnlyReads}
-use Rattle.merge_client.specs.Merging.{IsLent, IsOpen, IsReady, MovesAfterRead, after_poll, call_by, call_of, given_back, member_after}
-use Rattle.merge_client.specs.Merging.{read_poll, reading_on, shard_of, taken_back}
-use Rattle.merge_client.proofs.Asking.{is_question, read_keeps}
+use Rattle.merge_client.specs.Following.{Follows, FollowsAsked, FollowsMerge, FollowsRead, IsPairOf, OnlyReads}
+use Rattle.merge_client.specs.Merging.{IsLent, IsReady, call_by, call_of, given_back}
+use Rattle.merge_client.specs.Merging.{reading_on, shard_of}
+use Rattle.merge_client.proofs.Asking.{is_question}
 use Rattle.merge_client.proofs.Following.{asked_on, if_map}
 use Rattle.merge_client.proofs.DuePairs.{Found_so, found_so, rows_of_two}
 

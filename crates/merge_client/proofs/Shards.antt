@@ -5,7 +5,6 @@ use Rattle.store_core.specs.declared.replies.Reply.{Reply}
 use Rattle.history_core.specs.declared.merge_answers.MergeAnswer.{MergeAnswer}
 use Rattle.load_core.specs.declared.polls.Poll.{Poll}
 use Rattle.load_core.specs.declared.polls.Poll.TheVariants as polls
-use Rattle.read_machine.specs.declared.readings.Reading.{Reading}
 use Rattle.read_machine.proofs.Replied.{read_stays}
 use Rattle.token_machine.specs.declared.storings.Storing.{Storing}
 use Rattle.token_machine.proofs.Ways.{same}

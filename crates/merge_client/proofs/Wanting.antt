@@ -1,14 +1,8 @@
 -- A compactor follows from its client's own entries also after want of memory. Entries go newest first.
-use Rattle.std.proofs.Common.{◌≡◌, ◌⊎◌, ℕ, suc, ◌+◌, ◌<◌, ◌≤◌, Bool, true, false, Option, Some, None, List, [], ◌∷◌, ◌++◌, length}
-use Rattle.std.proofs.Common.{◌&&◌, inl, inr, refl, sym, ap, subst, ◌∙◌, arith, min}
-use Rattle.std.specs.Prelude.{⊤, IfSome, IsSome, IsSomeAnd, unwrap_or, ◌==◌}
+use Rattle.std.proofs.Common.{◌≡◌, ℕ, ◌+◌, ◌<◌, Option, Some, None, List, ◌∷◌, ◌++◌}
+use Rattle.std.proofs.Common.{inl, inr, refl, sym, ap, subst, ◌∙◌, arith, min}
+use Rattle.std.specs.Prelude.{IfSome, IsSome, IsSomeAnd}
 use Rattle.update_core.specs.declared.updates.Update.{Update}
-use Rattle.spine_core.specs.declared.batches.Batch.{Batch}
-use Rattle.store_core.specs.declared.shards.ShardId.{ShardId}
-use Rattle.store_core.specs.declared.part_keys.PartKey.{PartKey}
-use Rattle.store_core.specs.declared.versions.Version.{Version}
-use Rattle.store_core.specs.declared.calls.Call.{Call}
-use Rattle.store_core.specs.declared.calls.Call.TheVariants as calls
 use Rattle.store_core.specs.declared.replies.Reply.{Reply}
 use Rattle.store_core.specs.declared.entries.Entry.{Entry}
 use Rattle.store_core.specs.Histories.{reply}
@@ -16,62 +10,31 @@ use Rattle.store_core.specs.Stores.{Stored}
 use Rattle.store_core.specs.Ports.{Answered, OfOthers, answered}
 use Rattle.store_core.specs.Newest.{mine_back, replay_back}
 use Rattle.state_core.specs.declared.kinds.Kind.TheVariants.{Keeper}
-use Rattle.state_core.specs.declared.refusals.Refusal.{Refusal}
-use Rattle.state_core.specs.declared.refusals.Refusal.TheVariants as refusals
 use Rattle.state_core.specs.declared.transitions.Transition.{Transition}
-use Rattle.state_core.specs.declared.transitions.Transition.TheVariants.{Join, Leave, Merge, Renew}
+use Rattle.state_core.specs.declared.transitions.Transition.TheVariants.{Join, Leave, Renew}
 use Rattle.state_core.specs.Lists.{Among}
 use Rattle.state_core.specs.States.{ShardState}
-use Rattle.state_core.specs.Steps.{AreKeys, Applies, Spends}
-use Rattle.state_core.specs.VersionReading.{most, version_in}
-use Rattle.state_core.proofs.ListLemmas.{bool_cases}
+use Rattle.state_core.specs.VersionReading.{most}
 use Rattle.history_core.specs.declared.asked.Asked.{Asked}
 use Rattle.history_core.specs.declared.asked.Asked.TheVariants as asks
-use Rattle.history_core.specs.declared.merge_answers.MergeAnswer.{MergeAnswer}
-use Rattle.history_core.specs.declared.merge_answers.MergeAnswer.TheVariants as answers
 use Rattle.history_core.specs.Discipline.{LawfulBack}
-use Rattle.history_core.specs.Placing.{Placed, placed, places}
+use Rattle.history_core.specs.Placing.{Placed, places}
 use Rattle.history_core.specs.Stands.{StandsFor}
 use Rattle.history_core.specs.Upkeep.{TriesMerge}
-use Rattle.history_core.proofs.Entries.{lawful_older}
-use Rattle.history_core.proofs.Gaining.{mine_gained, mine_others, places_gained}
+use Rattle.history_core.proofs.Gaining.{mine_gained, places_gained}
 use Rattle.load_core.specs.declared.nexts.Next.{Next}
 use Rattle.load_core.specs.declared.nexts.Next.TheVariants as nexts
-use Rattle.load_core.specs.declared.polls.Poll.{Poll}
-use Rattle.load_core.specs.declared.polls.Poll.TheVariants as polls
-use Rattle.load_core.specs.declared.readies.Ready.{Ready}
-use Rattle.load_core.specs.declared.tries.Tried.{Tried}
-use Rattle.load_core.specs.declared.tries.Tried.TheVariants as tries
-use Rattle.load_core.specs.declared.tryings.Trying.{Trying}
-use Rattle.load_core.specs.Attempts.{IsReady as IsReadyOn}
-use Rattle.load_core.specs.Following.{FollowsTrying}
-use Rattle.load_core.specs.Loading.{newest_after}
-use Rattle.load_core.specs.Runs.{IsNotIn, OnlyCarries}
-use Rattle.load_core.specs.Setting as setting
 use Rattle.load_core.specs.Trying as trying
-use Rattle.load_core.proofs.Outcomes.{HowMoved, scanned, failed, cased, how_moved}
-use Rattle.load_core.proofs.Runs.{Same, next_calls}
-use Rattle.change_core.specs.declared.outcomes.Outcome.{Outcome}
-use Rattle.change_core.specs.Changes.{outcome}
-use Rattle.change_core.proofs.Forms.{committed_as, refused_as}
-use Rattle.machine_core.specs.Machines.{GoesOn}
-use Rattle.read_machine.proofs.Parts.{some_is}
-use Rattle.token_machine.specs.declared.storings.Storing.{Storing}
-use Rattle.token_machine.specs.Following.{Draws, UsesToken}
-use Rattle.token_machine.specs.Legality.{StoresAt}
-use Rattle.token_machine.specs.Outcomes.{stored, token_outcome}
+use Rattle.load_core.proofs.Runs.{next_calls}
 use Rattle.token_machine.specs.Storings as storing
-use Rattle.token_machine.proofs.LastCas.{storing_stays}
-use Rattle.token_machine.proofs.Stepping.{draws_on, storing_called, trying_called, trying_moved, uses_none_above}
-use Rattle.token_machine.proofs.Ways.{Way, call_false, carries, same, same_keys, set, try, way}
-use Rattle.merge_core.specs.Drafting.{IsDraft, merged_batch, merged_rows}
+use Rattle.token_machine.proofs.Stepping.{storing_called, trying_called}
 use Rattle.merge_client.specs.declared.compactors.Compactor.{Compactor}
 use Rattle.merge_client.specs.declared.dues.Due.{Due}
 use Rattle.merge_client.specs.declared.pairs.Pair.{Pair}
 use Rattle.merge_client.specs.Following.{Follows, FollowsAsked, FollowsDraft, FollowsMerge, IsPairOf, Tries, WasTried}
-use Rattle.merge_client.specs.Merging.{IsReady, call_by, call_of, change_poll, merge_poll, merge_refused, own_member, owner, shard_of, verdict}
-use Rattle.merge_client.proofs.Following.{asked_on, if_map, pair_more}
-use Rattle.merge_client.proofs.Going.{Asks, IsGoing, asks_of, closes, going, going_out, keys_under, merges, none_left, opens, renews, step_of}
+use Rattle.merge_client.specs.Merging.{IsReady, call_of, shard_of}
+use Rattle.merge_client.proofs.Following.{pair_more}
+use Rattle.merge_client.proofs.Going.{Asks, closes, merges, opens, renews}
 use Rattle.merge_client.proofs.Trying.{call, member_now}
 
 module _ (client : ℕ) (c : Compactor) (start : Stored) (list : List Update) (e : Entry) (others es : List Entry)

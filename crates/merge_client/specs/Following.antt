@@ -11,7 +11,7 @@ use Rattle.store_core.specs.Newest.{mine_back}
 use Rattle.state_core.specs.declared.kinds.Kind.TheVariants.{Keeper}
 use Rattle.state_core.specs.declared.members.Member.{Member}
 use Rattle.state_core.specs.declared.transitions.Transition.{Transition}
-use Rattle.state_core.specs.declared.transitions.Transition.TheVariants.{Init, Join, Leave, Renew}
+use Rattle.state_core.specs.declared.transitions.Transition.TheVariants.{Join, Leave, Renew}
 use Rattle.state_core.specs.Lists.{Among}
 use Rattle.state_core.specs.Refusals.{member_of}
 use Rattle.state_core.specs.States.{ShardState}
@@ -30,7 +30,6 @@ use Rattle.merge_core.specs.Drafting.{IsDraft}
 use Rattle.read_machine.specs.declared.looks.Look.TheVariants as looks
 use Rattle.read_machine.specs.Following.{IsRead}
 use Rattle.read_machine.specs.Readings as readings
-use Rattle.token_machine.specs.declared.storings.Storing.{Storing}
 use Rattle.token_machine.specs.Following.{Draws, FollowsStoring, UsesToken}
 use Rattle.merge_client.specs.declared.compactors.Compactor.{Compactor}
 use Rattle.merge_client.specs.declared.dues.Due.{Due}
