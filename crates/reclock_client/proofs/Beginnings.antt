@@ -19,7 +19,8 @@ free : (o : Operator) (errand : Option Errand) (joined : Bool) → fault_by erra
 free o None joined e idle = idle
 free o (Some errand) joined e idle = absurd (let bad : Some faults.Open ≡ None = e in cc)
 
-pub begun_sound : (o : Operator) (errand : Errand) (step : Step) → IsSound o → fault o ≡ None → IsLight (Some errand) → IsSound (begun o errand step)
+pub begun_sound : (o : Operator) (errand : Errand) (step : Step) → IsSound o → fault o ≡ None → IsLight (Some errand) →
+    IsSound (begun o errand step)
 begun_sound o errand step s e light = record {
   remap_writer = s.remap_writer;
   reader = s.reader;

@@ -35,7 +35,8 @@ pub appends_at_11 : after_listen (read_up_to_11 (errands.Mint 11 []) steps.Next)
 appends_at_11 = refl
 
 -- another was faster: it reads again
-pub reads_again : after_append_remap (read_up_to_11 (errands.Mint 11 []) (steps.AppendRemap 11)) (Some (errands.Mint 11 [])) (writes.Mismatch (Some 12)) ≡
+pub reads_again : after_append_remap (read_up_to_11 (errands.Mint 11 []) (steps.AppendRemap 11)) (Some (errands.Mint 11 []))
+    (writes.Mismatch (Some 12)) ≡
     goes (read_up_to_11 (errands.Mint 11 []) (steps.AppendRemap 11)) steps.Next
 reads_again = refl
 

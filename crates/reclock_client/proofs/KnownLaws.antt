@@ -1,5 +1,6 @@
 -- Reading keeps what an operator knows right.
-use Rattle.std.proofs.Common.{◌≡◌, ℕ, ◌+◌, ◌-◌, ◌<◌, ◌^◌, ℤ, pos, negsuc, Bool, true, false, ◌&&◌, cond, Option, Some, None, List, [], ◌∷◌, refl, sym, subst, arith}
+use Rattle.std.proofs.Common.{◌≡◌, ℕ, ◌+◌, ◌-◌, ◌<◌, ◌^◌, ℤ, pos, negsuc, Bool, true, false}
+use Rattle.std.proofs.Common.{◌&&◌, cond, Option, Some, None, List, [], ◌∷◌, refl, sym, subst, arith}
 use Rattle.std.proofs.lemmas.Bool.Decides.{nat_tests}
 use Rattle.std.specs.List.{AllByRecursion}
 use Rattle.std.specs.Ordering.{is_gt}
@@ -25,7 +26,8 @@ use Rattle.reclock_client.specs.Reading.{foreign_time, in_time, is_one_byte, is_
 raises_one : (datum : List ℕ) (time : ℕ) (diff : ℤ) (room : Bool) → AllByRecursion (λ b. b < 256) datum →
     is_one_byte datum && (nat_lt 0 (offset_of diff) && room) ≡ true → Raises (record { datum = datum; time = time; diff = diff })
 raises_one [] t d r bytes e = cc
-raises_one (p ∷ []) t (pos n) r bytes e = record { partition = p; amount = n; known = bytes.0; some = positive (nat_lt 0 n) r refl e; is = refl }
+raises_one (p ∷ []) t (pos n) r bytes e =
+    record { partition = p; amount = n; known = bytes.0; some = positive (nat_lt 0 n) r refl e; is = refl }
   where
     positive : (a b : Bool) → nat_lt 0 n ≡ a → a && b ≡ true → 0 < n
     positive true b f e = grind (arith, nat_tests)
@@ -39,7 +41,8 @@ none_foreign f (u ∷ us) bytes e = pick (is_rise f u.datum u.diff) refl e (none
   where
     pick : (b : Bool) → is_rise f u.datum u.diff ≡ b → cond b (foreign_time (risen f u.datum u.diff) us) (Some u.time) ≡ None →
         (foreign_time (risen f u.datum u.diff) us ≡ None → AllByRecursion Raises us) → AllByRecursion Raises (u ∷ us)
-    pick true h e rest = (raises_one u.datum u.time u.diff (nat_le (offset f (partition_of u.datum) + offset_of u.diff) (2 ^ 48)) bytes.0 h, rest e)
+    pick true h e rest =
+        (raises_one u.datum u.time u.diff (nat_le (offset f (partition_of u.datum) + offset_of u.diff) (2 ^ 48)) bytes.0 h, rest e)
     pick false h e rest = cc
 
 after_covers : (s : ℕ) → covers (after s) s ≡ true

@@ -1,5 +1,6 @@
 -- The append of a mint isn't refused for its range or its rows.
-use Rattle.std.proofs.Common.{◌≡◌, ◌≢◌, ℕ, zero, suc, ◌+◌, ◌-◌, ◌<◌, ◌≤◌, ◌^◌, Bool, true, false, not, ◌&&◌, cond, Option, Some, None, List, [], ◌∷◌, ◌++◌, length, refl, sym, ap, subst, ◌∙◌, arith}
+use Rattle.std.proofs.Common.{◌≡◌, ◌≢◌, ℕ, zero, suc, ◌+◌, ◌-◌, ◌<◌, ◌≤◌, ◌^◌, Bool, true, false, not, ◌&&◌}
+use Rattle.std.proofs.Common.{cond, Option, Some, None, List, [], ◌∷◌, ◌++◌, length, refl, sym, ap, subst, ◌∙◌, arith}
 use Rattle.std.proofs.lemmas.Bool.Decides.{nat_tests}
 use Rattle.std.proofs.lemmas.Iterator.Adapters.{position_from-zero}
 use Rattle.std.specs.List.{AllByRecursion, flat_map, position_from, range_with_len}
@@ -68,7 +69,8 @@ none_found u t i (x ∷ us) h all =
 pub mint_fits : MintFits
 unfolding partitions
 mint_fits w t u had seen h token =
-    (λ i. cond (unspent i) (Some faults.TokensSpent) (cond (forward i) (Some faults.EmptyRange) (cond (few i) (Some (faults.TooMany (length (rises t had seen)))) (row_fault (found i)))))
+    (λ i. cond (unspent i) (Some faults.TokensSpent) (cond (forward i) (Some faults.EmptyRange)
+    (cond (few i) (Some (faults.TooMany (length (rises t had seen)))) (row_fault (found i)))))
   where
     at : AllAt t (rises t had seen) × (length (rises t had seen) ≤ 256)
     at = all_at t had seen 0 256

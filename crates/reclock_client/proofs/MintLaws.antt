@@ -1,5 +1,6 @@
 -- The rows of a mint raise each partition's sum to the greater of what was reached and what was seen.
-use Rattle.std.proofs.Common.{◌≡◌, ℕ, zero, suc, ◌+◌, ◌-◌, ◌<◌, ℤ, pos, ◌+ℤ◌, Bool, true, false, ◌&&◌, cond, max, List, [], ◌∷◌, ◌++◌, map, refl, sym, ap, ◌∙◌, arith}
+use Rattle.std.proofs.Common.{◌≡◌, ℕ, zero, suc, ◌+◌, ◌-◌, ◌<◌, ℤ, pos, ◌+ℤ◌, Bool, true, false}
+use Rattle.std.proofs.Common.{◌&&◌, cond, max, List, [], ◌∷◌, ◌++◌, map, refl, sym, ap, ◌∙◌, arith}
 use Rattle.std.proofs.Math.IntN.{+ℤ_idl, +ℤ_idr}
 use Rattle.std.proofs.lemmas.Int.{ints}
 use Rattle.std.proofs.lemmas.Bool.Decides.{nat_tests}
@@ -19,7 +20,8 @@ use Rattle.reclock_client.specs.Minting.{rise_of, rises}
 abbrev amount : List ℕ → List ℕ → ℕ → ℤ
 amount had seen p = cond (nat_lt (offset had p) (offset seen p)) (pos (offset seen p - offset had p)) (pos 0)
 
-first_change : (t : ℕ) (had seen : List ℕ) (p q : ℕ) (us : List Update) → change_at (rise_of t had seen p ++ us) q t ≡ cond (q == p) (amount had seen p) (pos 0) +ℤ change_at us q t
+first_change : (t : ℕ) (had seen : List ℕ) (p q : ℕ) (us : List Update) →
+    change_at (rise_of t had seen p ++ us) q t ≡ cond (q == p) (amount had seen p) (pos 0) +ℤ change_at us q t
 first_change t had seen p q us = pick (nat_lt (offset had p) (offset seen p))
   where
     itself : (t == t) ≡ true
@@ -34,9 +36,11 @@ first_change t had seen p q us = pick (nat_lt (offset had p) (offset seen p))
     no_zero false = refl
 
     one : (n : ℕ) → total moment_cmp (map moment_entry (row_of p t n ∷ [])) (q ∷ [], t) ≡ cond (q == p) (pos n) (pos 0)
-    one n = change_new [] p t n q t ∙ +ℤ_idl _ ∙ ap (λ b. cond ((q == p) && b) (pos n) (pos 0)) itself ∙ ap (λ b. cond b (pos n) (pos 0)) (and_true (q == p))
+    one n = change_new [] p t n q t ∙ +ℤ_idl _ ∙ ap (λ b. cond ((q == p) && b) (pos n) (pos 0)) itself
+        ∙ ap (λ b. cond b (pos n) (pos 0)) (and_true (q == p))
 
-    pick : (b : Bool) → change_at (cond b (row_of p t (offset seen p - offset had p) ∷ []) [] ++ us) q t ≡ cond (q == p) (cond b (pos (offset seen p - offset had p)) (pos 0)) (pos 0) +ℤ change_at us q t
+    pick : (b : Bool) → change_at (cond b (row_of p t (offset seen p - offset had p) ∷ []) [] ++ us) q t ≡
+        cond (q == p) (cond b (pos (offset seen p - offset had p)) (pos 0)) (pos 0) +ℤ change_at us q t
     pick true =
         ap (λ es. total moment_cmp es (q ∷ [], t)) (entries-append (row_of p t (offset seen p - offset had p) ∷ []) us)
         ∙ total-append moment_cmp (map moment_entry (row_of p t (offset seen p - offset had p) ∷ [])) (map moment_entry us) (q ∷ [], t)
@@ -57,7 +61,8 @@ module _ (t : ℕ) (had seen : List ℕ) where
   there a zero i q h e = absurd (omega arith)
   there a (suc k) zero q h e =
       first_change t had seen a q (flat_map (rise_of t had seen) (range_with_len (a + 1) k))
-      ∙ (λ i. cond (same i) (amount had seen a) (pos 0) +ℤ not_below (a + 1) k q (omega arith) i) ∙ +ℤ_idr (amount had seen a) ∙ ap (amount had seen) (sym equal)
+      ∙ (λ i. cond (same i) (amount had seen a) (pos 0) +ℤ not_below (a + 1) k q (omega arith) i)
+      ∙ +ℤ_idr (amount had seen a) ∙ ap (amount had seen) (sym equal)
     where
       equal : q ≡ a
       equal = omega arith
@@ -66,15 +71,18 @@ module _ (t : ℕ) (had seen : List ℕ) where
       same = grind (arith, nat_tests)
   there a (suc k) (suc i) q h e =
       first_change t had seen a q (flat_map (rise_of t had seen) (range_with_len (a + 1) k))
-      ∙ (λ j. cond (differs j) (amount had seen a) (pos 0) +ℤ there (a + 1) k i q (omega arith) (omega arith) j) ∙ +ℤ_idl (amount had seen q)
+      ∙ (λ j. cond (differs j) (amount had seen a) (pos 0) +ℤ there (a + 1) k i q (omega arith) (omega arith) j)
+      ∙ +ℤ_idl (amount had seen q)
     where
       differs : (q == a) ≡ false
       differs = grind (arith, nat_tests)
 
   -- a sum of what was reached, and the change by the mint
-  pub mint_raises : (p : ℕ) → p < 256 → offset_of (pos (offset had p) +ℤ change_at (rises t had seen) p t) ≡ max (offset had p) (offset seen p)
+  pub mint_raises : (p : ℕ) → p < 256 →
+      offset_of (pos (offset had p) +ℤ change_at (rises t had seen) p t) ≡ max (offset had p) (offset seen p)
   unfolding partitions
-  mint_raises p h = ap (λ z. offset_of (pos (offset had p) +ℤ z)) (there 0 256 p p h (omega arith)) ∙ pick (nat_lt (offset had p) (offset seen p)) refl
+  mint_raises p h = ap (λ z. offset_of (pos (offset had p) +ℤ z)) (there 0 256 p p h (omega arith))
+      ∙ pick (nat_lt (offset had p) (offset seen p)) refl
     where
       same : (z : ℤ) (k : ℕ) → z ≡ pos k → offset_of z ≡ k
       same z k e = ap offset_of e
@@ -94,6 +102,7 @@ module _ (t : ℕ) (had seen : List ℕ) where
           greater : nat_lt a b ≡ false → a ≡ max a b
           greater e = grind (arith, nat_tests)
 
-      pick : (b : Bool) → nat_lt (offset had p) (offset seen p) ≡ b → offset_of (pos (offset had p) +ℤ cond b (pos (offset seen p - offset had p)) (pos 0)) ≡ max (offset had p) (offset seen p)
+      pick : (b : Bool) → nat_lt (offset had p) (offset seen p) ≡ b →
+          offset_of (pos (offset had p) +ℤ cond b (pos (offset seen p - offset had p)) (pos 0)) ≡ max (offset had p) (offset seen p)
       pick true e = more (offset had p) (offset seen p) e
       pick false e = no_more (offset had p) (offset seen p) e

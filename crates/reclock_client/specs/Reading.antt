@@ -1,5 +1,6 @@
 -- What the rows of a remap shard make of the bindings that are known.
-use Rattle.std.specs.Prelude.{⊤, ◌≡◌, ℕ, ℤ, ◌+◌, ◌^◌, Bool, true, false, ◌&&◌, if◌then◌else◌, Option, Some, None, List, [], ◌∷◌, drop, nat_le, nat_lt}
+use Rattle.std.specs.Prelude.{⊤, ◌≡◌, ℕ, ℤ, ◌+◌, ◌^◌, Bool, true, false, ◌&&◌}
+use Rattle.std.specs.Prelude.{if◌then◌else◌, Option, Some, None, List, [], ◌∷◌, drop, nat_le, nat_lt}
 use Rattle.update_core.specs.declared.updates.Update.{Update}
 use Rattle.remap_core.specs.Offsets.{offset}
 use Rattle.remap_core.specs.RemapShards.{offset_of}

@@ -223,7 +223,8 @@ impl Operator {
     /// Memory; the operator is then as it was.
     pub fn begin_publish(&mut self, alloc: Global, rows: &SourceList) -> Result<(), BeginFault>
         requires { IsSound self.old }
-        ensures begins { Begins (publish_fault self.old rows.now) self.old self.new (begun self.old (Errand.Publish rows.now) Step.Look) result }
+        ensures begins { Begins (publish_fault self.old rows.now) self.old self.new (begun self.old (Errand.Publish rows.now) Step.Look)
+            result }
         ensures sound { IsSound self.new }
         ensures follows { (client : ℕ) (front : Option History) → Follows client front self.old → Follows client front self.new }
     {

@@ -31,7 +31,8 @@ pub fn leave_writer(alloc: Global, writer: &mut Writer) -> bool
     requires { writers.IsSound writer.old }
     ensures leaves { StartsLeave writer.old writer.new result }
     ensures sound { writers.IsSound writer.new }
-    ensures follows { (client : ℕ) (front : Option History) → writes.FollowsWhere client front writer.old → writes.FollowsWhere client front writer.new }
+    ensures follows { (client : ℕ) (front : Option History) → writes.FollowsWhere client front writer.old
+        → writes.FollowsWhere client front writer.new }
 {
     match writer.begin_close(alloc) {
         Ok(()) => true,
@@ -50,7 +51,8 @@ pub fn append(
     requires { writers.IsSound writer.old }
     ensures begins { StartsAppend rows from to writer.old writer.new result }
     ensures sound { writers.IsSound writer.new }
-    ensures follows { (client : ℕ) (front : Option History) → writes.FollowsWhere client front writer.old → writes.FollowsWhere client front writer.new }
+    ensures follows { (client : ℕ) (front : Option History) → writes.FollowsWhere client front writer.old
+        → writes.FollowsWhere client front writer.new }
 {
     match writer.begin_append(alloc, rows, from, to) {
         Ok(()) => Ok(Begun::Yes),
@@ -65,7 +67,8 @@ pub fn take_snapshot(reader: &mut Reader, t: u64) -> bool
     requires { readers.IsSound reader.old }
     ensures reads { StartsRead (Asked.Snapshot t) reader.old.listen reader.old reader.new result }
     ensures sound { readers.IsSound reader.new }
-    ensures follows { (client : ℕ) (front : Option History) → reads.FollowsWhere client front reader.old → reads.FollowsWhere client front reader.new }
+    ensures follows { (client : ℕ) (front : Option History) → reads.FollowsWhere client front reader.old
+        → reads.FollowsWhere client front reader.new }
 {
     match reader.begin_snapshot(t) {
         Ok(()) => true,
@@ -78,7 +81,8 @@ pub fn start_listen(reader: &mut Reader, as_of: u64) -> bool
     requires { readers.IsSound reader.old }
     ensures reads { StartsRead (Asked.Listen as_of) (Some (after as_of)) reader.old reader.new result }
     ensures sound { readers.IsSound reader.new }
-    ensures follows { (client : ℕ) (front : Option History) → reads.FollowsWhere client front reader.old → reads.FollowsWhere client front reader.new }
+    ensures follows { (client : ℕ) (front : Option History) → reads.FollowsWhere client front reader.old
+        → reads.FollowsWhere client front reader.new }
 {
     match reader.begin_listen(as_of) {
         Ok(()) => true,
@@ -91,7 +95,8 @@ pub fn take_step(reader: &mut Reader) -> bool
     requires { readers.IsSound reader.old }
     ensures reads { StartsRead Asked.Next reader.old.listen reader.old reader.new result }
     ensures sound { readers.IsSound reader.new }
-    ensures follows { (client : ℕ) (front : Option History) → reads.FollowsWhere client front reader.old → reads.FollowsWhere client front reader.new }
+    ensures follows { (client : ℕ) (front : Option History) → reads.FollowsWhere client front reader.old
+        → reads.FollowsWhere client front reader.new }
 {
     match reader.begin_next() {
         Ok(()) => true,
@@ -104,7 +109,8 @@ pub fn leave_reader(reader: &mut Reader) -> bool
     requires { readers.IsSound reader.old }
     ensures leaves { LeavesReader reader.old reader.new result }
     ensures sound { readers.IsSound reader.new }
-    ensures follows { (client : ℕ) (front : Option History) → reads.FollowsWhere client front reader.old → reads.FollowsWhere client front reader.new }
+    ensures follows { (client : ℕ) (front : Option History) → reads.FollowsWhere client front reader.old
+        → reads.FollowsWhere client front reader.new }
 {
     match reader.begin_close() {
         Ok(()) => true,

@@ -8,6 +8,7 @@ loop-partition-init c = record { left = start c.args.time c.args.had.now c.args.
 
 pub loop-partition-preserved : goal.loop-partition-preserved
 loop-partition-preserved c = record {
-  left = next (rise_of c.args.time c.args.had.now c.args.seen.now) c.loop-partition.partition c.loop-partition.rows c.put_rise.new.rows _ (omega arith)
+  left = next (rise_of c.args.time c.args.had.now c.args.seen.now) c.loop-partition.partition c.loop-partition.rows
+      c.put_rise.new.rows _ (omega arith)
       c.in_ok-put_rise.ensures c.loop-partition.invariant.left;
 }
