@@ -26,9 +26,6 @@ pub enum StepFault {
     /// The shard has its last version.
     #[error("no version is left")]
     Spent,
-    /// A compactor was to be made: none is executed yet.
-    #[error("no compactor is executed yet")]
-    Unbuilt,
 }
 
 impl From<AllocError> for StepFault {
