@@ -1,1 +1,12 @@
+mod Among
+mod Beginnings
+mod Crossing
+mod CrewEnds
+mod Endings
+mod Looping
 mod PortKeeping
+mod Reaching
+mod Rooms
+mod Seating
+mod TurnEnds
+mod Turning

@@ -1,5 +1,6 @@
 -- What a turn at a worker's port keeps.
-use Rattle.std.proofs.Common.{inl, inr, ◌≡◌, ℕ, ◌+◌, ◌-◌, ◌^◌, min, true, Option, Some, None, List, [], ◌∷◌, ◌++◌, length, map, refl, sym, ap, subst, ◌∙◌, arith, append_assoc, append-nil}
+use Rattle.std.proofs.Common.{inl, inr, ◌≡◌, ℕ, ◌+◌, ◌-◌, ◌^◌, min, true, Option, Some, None, List, [], ◌∷◌, ◌++◌, length, map}
+use Rattle.std.proofs.Common.{refl, sym, ap, subst, ◌∙◌, arith, append_assoc, append-nil}
 use Rattle.std.specs.Prelude.{◌==◌}
 use Rattle.std.proofs.lemmas.List.{append_cancel_left, length-append}
 use Rattle.std.proofs.lemmas.Bool.Decides.{nat_tests}
@@ -77,16 +78,19 @@ module _ {S : Type 0} where
   -- ---- the front
 
   -- the front of a pass is the history of the store when it was taken in, with what the pass has seen
-  pub front_is : (history : S → Option History) (v : View S Entry) (h : History) → opened history v ≡ Some h → front_of history v ≡ Some (with_entries h v.gain)
+  pub front_is : (history : S → Option History) (v : View S Entry) (h : History) → opened history v ≡ Some h →
+      front_of history v ≡ Some (with_entries h v.gain)
   front_is history v h e = go v.start e
     where
       joined : (o : Option History) (xs ys : List Entry) → extended o xs ≡ Some h → extended o (xs ++ ys) ≡ Some (with_entries h ys)
       joined None xs ys e = absurd (let bad : None ≡ Some h = e in cc)
       joined (Some g) xs ys e =
           let is : with_entries g xs ≡ h = (let f : Some (with_entries g xs) ≡ Some h = e in cc) in
-          ap (λ (es : List Entry). Some (of_entries g.start es)) (sym (append_assoc g.trail xs ys)) ∙ ap (λ (f : History). Some (with_entries f ys)) is
+          ap (λ (es : List Entry). Some (of_entries g.start es)) (sym (append_assoc g.trail xs ys))
+          ∙ ap (λ (f : History). Some (with_entries f ys)) is
 
-      go : (start : Option (S × List Entry)) → told_history history start ≡ Some h → told_history history (with_more start v.gain) ≡ Some (with_entries h v.gain)
+      go : (start : Option (S × List Entry)) → told_history history start ≡ Some h →
+          told_history history (with_more start v.gain) ≡ Some (with_entries h v.gain)
       go None e = absurd (let bad : None ≡ Some h = e in cc)
       go (Some p) e = joined (history p.0) p.1 v.gain e
 
@@ -94,33 +98,42 @@ module _ {S : Type 0} where
   opened_same history k v s = ap (told_history history) s.start
 
   -- a reply is one more entry of the pass's number, after entries of others
-  pub gained_one : (history : S → Option History) (v w : View S Entry) (h : History) (call : Call) (r : Reply) → opened history v ≡ Some h → w.start ≡ v.start → w.number ≡ v.number →
+  pub gained_one : (history : S → Option History) (v w : View S Entry) (h : History) (call : Call) (r : Reply) →
+      opened history v ≡ Some h → w.start ≡ v.start → w.number ≡ v.number →
       GainsWhereTold v.number (front_of history v) (front_of history w) call r → own_calls w ≡ own_calls v + 1
   gained_one history v w h call r told start number gains =
       let now : front_of history w ≡ Some (with_entries h w.gain) = front_is history w h (ap (told_history history) start ∙ told) in
-      let (k, k_is, g) = subst (λ (f : Option History). GainsWhereTold v.number f (front_of history w) call r) (front_is history v h told) gains in
+      let (k, k_is, g) = subst (λ (f : Option History). GainsWhereTold v.number f (front_of history w) call r)
+      (front_is history v h told) gains in
       let e : Entry = record { client = v.number; call = call; outcome = g.outcome } in
       let same : with_entries h w.gain ≡ with_entries (with_entries h v.gain) (g.others ++ e ∷ []) =
       some_is (with_entries h w.gain) (with_entries (with_entries h v.gain) (g.others ++ e ∷ []))
-      (sym now ∙ k_is ∙ ap Some g.new_is ∙ ap (λ (es : List Entry). Some (of_entries h.start es)) (append_assoc (h.trail ++ v.gain) g.others (e ∷ []))) in
+      (sym now ∙ k_is ∙ ap Some g.new_is ∙ ap (λ (es : List Entry). Some (of_entries h.start es))
+      (append_assoc (h.trail ++ v.gain) g.others (e ∷ []))) in
       let gain : w.gain ≡ v.gain ++ (g.others ++ e ∷ []) = rest_is h w.gain v.gain (g.others ++ e ∷ []) same in
       let own : entries_by entry_client v.number w.gain ≡ entries_by entry_client v.number v.gain ++ e ∷ [] =
       ap (entries_by entry_client v.number) gain ∙ entries_append entry_client v.number v.gain (g.others ++ e ∷ [])
       ∙ ap (λ (es : List Entry). entries_by entry_client v.number v.gain ++ es)
-      (entries_append entry_client v.number g.others (e ∷ []) ∙ ap (λ (es : List Entry). es ++ entries_by entry_client v.number (e ∷ [])) (none_of v.number g.others g.of_others)
+      (entries_append entry_client v.number g.others (e ∷ [])
+      ∙ ap (λ (es : List Entry). es ++ entries_by entry_client v.number (e ∷ [])) (none_of v.number g.others g.of_others)
       ∙ one_of v.number e refl) in
-      ap (λ (n : ℕ). length (entries_by entry_client n w.gain)) number ∙ ap length own ∙ length-append (entries_by entry_client v.number v.gain) (e ∷ [])
+      ap (λ (n : ℕ). length (entries_by entry_client n w.gain)) number ∙ ap length own
+      ∙ length-append (entries_by entry_client v.number v.gain) (e ∷ [])
 
   -- entries of others alone are none
-  pub gained_none : (history : S → Option History) (v w : View S Entry) (h : History) → opened history v ≡ Some h → w.start ≡ v.start → w.number ≡ v.number →
+  pub gained_none : (history : S → Option History) (v w : View S Entry) (h : History) → opened history v ≡ Some h → w.start ≡ v.start →
+      w.number ≡ v.number →
       GrowsByOthers v.number (front_of history v) (front_of history w) → own_calls w ≡ own_calls v
   gained_none history v w h told start number grows =
       let now : front_of history w ≡ Some (with_entries h w.gain) = front_is history w h (ap (told_history history) start ∙ told) in
-      let (others, of, is) = subst (λ (f : Option History). GrowsByOthers v.number f (front_of history w)) (front_is history v h told) grows in
-      let gain : w.gain ≡ v.gain ++ others = rest_is h w.gain v.gain others (some_is (with_entries h w.gain) (with_entries (with_entries h v.gain) others) (sym now ∙ is)) in
+      let (others, of, is) = subst (λ (f : Option History). GrowsByOthers v.number f (front_of history w)) (front_is history v h told)
+      grows in
+      let gain : w.gain ≡ v.gain ++ others = rest_is h w.gain v.gain others
+      (some_is (with_entries h w.gain) (with_entries (with_entries h v.gain) others) (sym now ∙ is)) in
       ap (λ (n : ℕ). length (entries_by entry_client n w.gain)) number
       ∙ ap (λ (es : List Entry). length (entries_by entry_client v.number es)) gain
-      ∙ ap length (entries_append entry_client v.number v.gain others ∙ ap (λ (es : List Entry). entries_by entry_client v.number v.gain ++ es) (none_of v.number others of)
+      ∙ ap length (entries_append entry_client v.number v.gain others
+      ∙ ap (λ (es : List Entry). entries_by entry_client v.number v.gain ++ es) (none_of v.number others of)
       ∙ append-nil (entries_by entry_client v.number v.gain))
 
   -- ---- the count

@@ -1,15 +1,19 @@
-//! What the workers of a crew share: turns, ends, stop numbers, gates, and the port through which each calls the store.
-//! `docs/DEFINITIONS.md`, "Workers of a crew", states it in plain words.
+//! Workers that share one store, each in a thread of its own. `docs/DEFINITIONS.md`, "Crews that run", states what they promise.
 #![tactic(auto)]
 
+mod crews;
 mod end_lists;
 mod ends;
 mod gates;
 mod plans;
+mod seats;
 mod stops;
 mod worker_ports;
 mod workers;
+mod working;
+mod writing;
 
+pub use crews::{CrewBack, CrewEnd, run_crew};
 pub use end_lists::EndList;
 pub use ends::{WorkerEnd, WorkerTurn};
 pub use gates::{Gate, OpenGate};

@@ -3,9 +3,12 @@ ghost use Rattle.std.specs.Prelude.{◌≡◌, ℕ, Option, List};
 ghost use Rattle.update_core.specs.declared.appends.FeedAppend.{FeedAppend};
 ghost use Rattle.store_core.specs.declared.shards.ShardId.{ShardId};
 ghost use Rattle.store_core.specs.Histories.{History};
+ghost use Rattle.appends_core.specs.Feeds.{IsFeed};
 ghost use Rattle.crew.specs.Turns.{ReadyAgain, Turned};
+ghost use Rattle.crew.specs.Writing.{IsReady};
 
 use crate::ends::WorkerTurn;
+use crate::writing::WriterWorker;
 use std::alloc::Global;
 use store_core::Port;
 
@@ -30,4 +33,16 @@ pub trait Worker {
         ensures shard { shard self.new ≡ shard self.old }
         ensures client { P.client port.new ≡ P.client port.old }
         ensures kept { P.kept port.new ≡ P.kept port.old };
+}
+
+impl<'a> Worker for WriterWorker<'a> {
+    ghost appends = { λ w. w.appends.now };
+
+    ghost shard = { λ w. w.shard };
+
+    ghost ready = { λ w client front. IsFeed w.appends.now × IsReady client front w };
+
+    fn turn<P: Port>(&mut self, alloc: Global, port: &mut P) -> WorkerTurn {
+        self.poll_once(alloc, port)
+    }
 }

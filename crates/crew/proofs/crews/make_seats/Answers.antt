@@ -1,0 +1,9 @@
+use Rattle.std.proofs.Common.{refl}
+use Rattle.crew.proofs.Seating.{seats_on}
+use Rattle.crew.proofs.crews.make_seats.Goals as goal
+
+pub loop-worker-preserved : goal.loop-worker-preserved
+loop-worker-preserved g c =
+    let k = seats_on c.args.plan.now.stops c.loop-worker.seats.items c.push.new.self.items _ c.loop-worker.worker
+    c.loop-worker.invariant.count c.in_ok-push.ensures.items c.loop-worker.invariant.placed refl c.stop_of.ensures in
+    record { count = k.0; placed = k.1 }

@@ -1,0 +1,28 @@
+use Rattle.std.proofs.Common.{◌≡◌, Some, refl, sym, ap, subst, ◌∙◌}
+use Rattle.std.specs.Prelude.{IfSome}
+use Rattle.turnstile.specs.Passes.{view}
+use Rattle.crew.specs.Seats.{IsNew, share_in}
+use Rattle.crew.proofs.Seating.{kin_keeps, one_some}
+use Rattle.crew.proofs.seats.sit.Goals as goal
+
+pub returns : goal.returns
+returns g c =
+    let seated = c.requires.seated in
+    let there : Some seated.pass ≡ Some c.in-Some.pass = sym seated.there ∙ sym c.take.ensures.value ∙ c.in-Some.is in
+    let same : seated.pass ≡ c.in-Some.pass = one_some seated.pass c.in-Some.pass there in
+    record {
+      worked = record {
+        pass = c.work_alone-pass.result.0;
+        there = refl;
+        is_pass = c.work_alone-pass.ensures.pass;
+        keeps = kin_keeps c.args.appends.now c.args.shard g.S.Store.history (view c.in-Some.pass) (view c.work_alone-pass.result.0)
+            (subst (λ (p : _). IsNew (view p)) same seated.new) c.work_alone-pass.ensures.same c.work_alone-pass.ensures.keeps;
+        shown = c.work_alone-pass.ensures.end;
+      };
+      share = c.work_alone-pass.ensures.same.share ∙ ap (λ (p : _). (view p).share) (sym same) ∙ sym (ap share_in seated.there);
+      number = λ n has.
+          c.work_alone-pass.ensures.same.number
+          ∙ subst (λ (o : _). IfSome o (λ p. (view p).number ≡ n)) (sym c.take.ensures.value ∙ c.in-Some.is) has;
+      worker = refl;
+      stop = refl;
+    }

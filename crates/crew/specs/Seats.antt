@@ -1,0 +1,142 @@
+-- Seats of a crew, each with a worker's pass.
+use Rattle.std.specs.Prelude.{⊤, ◌≡◌, ℕ, ◌+◌, ◌<◌, Option, Some, None, IfSome, List, [], ◌∷◌, length}
+use Rattle.update_core.specs.declared.appends.FeedAppend.{FeedAppend}
+use mathlib.Core.List.{IsPrefix}
+use Rattle.turnstile.specs.declared.views.View.{View}
+use Rattle.turnstile.specs.declared.passes.Pass.{Pass}
+use Rattle.turnstile.specs.declared.turnstiles.Turnstile.{Turnstile}
+use Rattle.turnstile.specs.Passes.{IsPassOf, view}
+use Rattle.turnstile.specs.Rule.{entries_by, times}
+use Rattle.store_core.specs.declared.stores.Store.{Ghosts}
+use Rattle.store_core.specs.declared.entries.Entry.{Entry}
+use Rattle.store_core.specs.declared.shards.ShardId.{ShardId}
+use Rattle.store_core.specs.Histories.{History}
+use Rattle.store_core.specs.Ports.{with_entries}
+use Rattle.shared_store.specs.declared.counted_stores.CountedStore.{CountedStore}
+use Rattle.shared_store.specs.Passes.{told_of}
+use Rattle.shared_store.specs.Trails.{entry_client}
+use Rattle.crew_core.specs.Keeping.{Keeps}
+use Rattle.crew_core.specs.Working.{IsWorkersEntry}
+use Rattle.crew.specs.declared.ends.WorkerEnd.{WorkerEnd}
+use Rattle.crew.specs.declared.ends.WorkerEnd.TheVariants as ends
+use Rattle.crew.specs.declared.seats.Seat.{Seat}
+use Rattle.crew.specs.declared.stops.Stop.{Stop}
+use Rattle.crew.specs.Ends.{EndMeans}
+use Rattle.crew.specs.Looping.{EndShown, LastFailed}
+use Rattle.crew.specs.Posts.{opened}
+use Rattle.crew.specs.Stops.{stop_of}
+
+-- what an end says of the entries of its client that have come to a history
+abbrev pub CountsAs : ℕ → Option ℕ → WorkerEnd → List Entry → Type 0
+CountsAs client stop ends.Stopped gain = (k : ℕ) × (stop ≡ Some k) × (length (entries_by entry_client client gain) ≡ k)
+CountsAs client stop ends.Faulted gain = LastFailed client gain
+CountsAs client stop _ gain = ⊤
+
+-- What an end says of a history to which these entries have come: Stopped, that its client has made as many calls as its stop number
+-- says; Faulted, that the client's last call failed; and what it means.
+pub record EndsAs (appends : List FeedAppend) (shard : ShardId) (client : ℕ) (stop : Option ℕ) (end : WorkerEnd) (h : History)
+    (gain : List Entry) : Type 0 where
+  pub counts : CountsAs client stop end gain
+  pub means : EndMeans appends shard client (Some (with_entries h gain)) end
+
+-- the same of the ends of the workers from this one on, each of which is the client one above its number
+abbrev pub AllEndAs : List FeedAppend → ShardId → List Stop → ℕ → List WorkerEnd → History → List Entry → Type 0
+AllEndAs appends shard stops worker [] h gain = ⊤
+AllEndAs appends shard stops worker (e ∷ more) h gain =
+    EndsAs appends shard (worker + 1) (stop_of stops worker) e h gain × AllEndAs appends shard stops (worker + 1) more h gain
+
+-- and where both histories are told
+abbrev pub EndsOn : List FeedAppend → ShardId → List Stop → Option History → Option History → List WorkerEnd → Type 0
+EndsOn appends shard stops before now ends =
+    (h : History) (gain : List Entry) → before ≡ Some h → now ≡ Some (with_entries h gain) → AllEndAs appends shard stops 0 ends h gain
+
+module _ {S : Type 0} where
+  -- each entry that the pass has seen of a number that it answers for is a worker's
+  abbrev pub KinKeeps : List FeedAppend → ShardId → (S → Option History) → View S Entry → Type 0
+  KinKeeps appends shard history v =
+      (n : ℕ) → 0 < times n v.kin → (h : History) → opened history v ≡ Some h → Keeps (IsWorkersEntry appends shard) shard n h v.gain
+
+  -- of each number that v answers for w answers too, and has seen the same entries
+  abbrev pub Shows : View S Entry → View S Entry → Type 0
+  Shows v w =
+      (n : ℕ) → 0 < times n v.kin →
+      (0 < times n w.kin) × (entries_by entry_client n w.gain ≡ entries_by entry_client n v.gain)
+
+  -- a pass that answers for its own number alone, and has seen nothing
+  pub record IsNew (v : View S Entry) : Type 0 where
+    pub kin : v.kin ≡ (v.number, []) ∷ []
+    pub gain : v.gain ≡ []
+
+  -- the pass w has seen what v has, and answers for the same
+  pub record SeenSame (v w : View S Entry) : Type 0 where
+    pub number : w.number ≡ v.number
+    pub start : w.start ≡ v.start
+    pub kin : w.kin ≡ v.kin
+    pub gain : w.gain ≡ v.gain
+
+module _ {S : Type 0} {G : Ghosts S} where
+  -- the seat has a new pass of this turnstile
+  pub record IsSeated (t : Turnstile (CountedStore S G) S Entry) (s : Seat S G) : Type 0 where
+    pub pass : Pass (CountedStore S G) S Entry
+    pub there : s.pass ≡ Some pass
+    pub is_pass : IsPassOf told_of entry_client t pass
+    pub new : IsNew (view pass)
+
+  -- the seat has a pass of this turnstile with which a worker has worked
+  pub record HasWorked (appends : List FeedAppend) (shard : ShardId) (t : Turnstile (CountedStore S G) S Entry)
+      (s : Seat S G) : Type 0 where
+    pub pass : Pass (CountedStore S G) S Entry
+    pub there : s.pass ≡ Some pass
+    pub is_pass : IsPassOf told_of entry_client t pass
+    pub keeps : KinKeeps appends shard G.history (view pass)
+    pub shown : EndShown G.history appends shard s.stop (view pass) s.end
+
+  -- the share of a seat's pass
+  abbrev pub share_in : Option (Pass (CountedStore S G) S Entry) → ℕ
+  share_in None = 0
+  share_in (Some p) = (view p).share
+
+  -- the shares of all
+  abbrev pub shares_of : List (Seat S G) → ℕ
+  shares_of [] = 0
+  shares_of (s ∷ ss) = share_in s.pass + shares_of ss
+
+  -- the seat's pass has this number
+  abbrev pub HasNumber : ℕ → Seat S G → Type 0
+  HasNumber n s = IfSome s.pass (λ p. (view p).number ≡ n)
+
+  -- the seats' passes are numbered from this number on
+  abbrev pub NumberedFrom : ℕ → List (Seat S G) → Type 0
+  NumberedFrom n [] = ⊤
+  NumberedFrom n (s ∷ ss) = HasNumber n s × NumberedFrom (n + 1) ss
+
+  -- the seat is the worker's, with its stop number
+  abbrev pub IsPlaceFor : List Stop → ℕ → Seat S G → Type 0
+  IsPlaceFor stops worker s = (s.worker ≡ worker) × (s.stop ≡ stop_of stops worker)
+
+  -- the seats are those of the workers from this one on
+  abbrev pub PlacedFrom : List Stop → ℕ → List (Seat S G) → Type 0
+  PlacedFrom stops worker [] = ⊤
+  PlacedFrom stops worker (s ∷ ss) = IsPlaceFor stops worker s × PlacedFrom stops (worker + 1) ss
+
+  -- the ends of all
+  abbrev pub ends_of : List (Seat S G) → List WorkerEnd
+  ends_of [] = []
+  ends_of (s ∷ ss) = s.end ∷ ends_of ss
+
+  -- what a worker's work makes of its seat
+  pub record Works (appends : List FeedAppend) (shard : ShardId) (t : Turnstile (CountedStore S G) S Entry)
+      (old new : Seat S G) : Type 0 where
+    pub worked : HasWorked appends shard t new
+    pub share : share_in new.pass ≡ share_in old.pass
+    pub number : (n : ℕ) → HasNumber n old → HasNumber n new
+    pub worker : new.worker ≡ old.worker
+    pub stop : new.stop ≡ old.stop
+
+  -- the pass with the view w shows what the seat's pass shows
+  abbrev pub ShowsSeat : View S Entry → Seat S G → Type 0
+  ShowsSeat w s = IfSome s.pass (λ p. Shows (view p) w)
+
+  -- and has seen what that has, and perhaps more
+  abbrev pub IsPrefixOf : View S Entry → Seat S G → Type 0
+  IsPrefixOf w s = IfSome s.pass (λ p. IsPrefix (view p).gain w.gain)

@@ -1,0 +1,157 @@
+// A crew: workers that share one store, each in a thread of its own.
+ghost use Rattle.std.specs.Prelude.{◌≡◌, ◌≤◌, ℕ, length, vec_len, IfErr, IfOk};
+ghost use Rattle.store_core.specs.Ports.{GrowsByOthers};
+ghost use Rattle.read_client.specs.Following.{FollowsWhere};
+ghost use Rattle.turnstile.specs.Passes.{view};
+ghost use Rattle.turnstile.specs.Rule.{first_view};
+ghost use Rattle.shared_store.specs.Fronts.{front_of};
+ghost use Rattle.shared_store.specs.Owners.{IsPassOfStore};
+ghost use Rattle.appends_core.specs.Feeds.{IsFeed};
+ghost use Rattle.crew.specs.Crews.{CrewRanOn};
+ghost use Rattle.crew.specs.Seats.{EndsOn, PlacedFrom};
+
+use crate::end_lists::EndList;
+use crate::ends::WorkerEnd;
+use crate::gates::Gate;
+use crate::plans::Plan;
+use crate::seats::{Seat, deal, gather, sit_all};
+use read_client::Reader;
+use shared_store::{CountedStore, SharedStore};
+use std::alloc::{AllocError, Global};
+use std::sync::Wait;
+use std::thread::Threads;
+use store_core::Store;
+use turnstile::Pass;
+
+/// What a crew leaves: the store, the pin, and the end of each worker.
+#[derive(Drop)]
+pub struct CrewEnd<S> {
+    pub store: S,
+    pub pin: Reader,
+    pub ends: EndList,
+}
+
+/// The store and the pin as they were handed in.
+#[derive(Drop)]
+pub struct CrewBack<S> {
+    pub store: S,
+    pub pin: Reader,
+}
+
+// All seats work at the store, which is taken back from them, with their ends.
+fn work_together<S: Store + Send, G: Gate + Sync, R: Threads + Wait + Sync>(
+    rt: &R,
+    alloc: Global,
+    shared: SharedStore<S>,
+    mut pass: Pass<CountedStore<S>>,
+    gate: &G,
+    plan: &Plan,
+    seats: &mut [Seat<S>],
+    ends: &mut [WorkerEnd],
+) -> S
+    requires pass { IsPassOfStore shared pass }
+    requires first { view pass ≡ first_view (view pass).start }
+    requires feed { IsFeed plan.now.appends }
+    requires few { length seats.old ≤ 64 }
+    requires room { length ends.old ≡ length seats.old }
+    requires places { PlacedFrom plan.now.stops 0 seats.old }
+    ensures ran { CrewRanOn plan.now.appends plan.now.shard (front_of S.history (view pass)) (S.history result) }
+    ensures others { GrowsByOthers 0 (front_of S.history (view pass)) (S.history result) }
+    ensures ends { EndsOn plan.now.appends plan.now.shard plan.now.stops (front_of S.history (view pass)) (S.history result) ends.new }
+    ensures length { length ends.new ≡ length seats.old }
+{
+    let appends = plan.appends.as_slice();
+    deal(&shared.turnstile, &mut pass, seats);
+    sit_all(
+        rt,
+        alloc,
+        &shared.turnstile,
+        gate,
+        plan.shard,
+        appends,
+        seats,
+    );
+    gather(
+        &shared.turnstile,
+        &mut pass,
+        plan.shard,
+        appends,
+        seats,
+        ends,
+    );
+    shared.close(pass)
+}
+
+// A seat with no pass yet for each worker, by number.
+fn make_seats<S: Store>(alloc: Global, plan: &Plan) -> Result<Vec<Seat<S>>, AllocError>
+    ensures count { IfOk result (λ seats. vec_len seats ≡ plan.now.writers) }
+    ensures places { IfOk result (λ seats. PlacedFrom plan.now.stops 0 seats.items) }
+{
+    let mut seats = Vec::new(alloc);
+    for worker in 0..plan.writers {
+        seats.push(Seat {
+            worker,
+            stop: plan.stops.stop_of(worker),
+            pass: None,
+            end: WorkerEnd::Finished,
+        })?;
+    }
+    Ok(seats)
+}
+
+// A place for the end of each worker.
+fn make_ends(alloc: Global, plan: &Plan) -> Result<Vec<WorkerEnd>, AllocError>
+    ensures { IfOk result (λ ends. vec_len ends ≡ plan.now.writers) }
+{
+    let mut ends = Vec::new(alloc);
+    for _ in 0..plan.writers {
+        ends.push(WorkerEnd::Finished)?;
+    }
+    Ok(ends)
+}
+
+/// Workers try the plan's appends at the store, each in a thread of its own, until all have ended. Client 0, as which the pin reads,
+/// makes no call meanwhile, and the pin follows also afterwards. The store and the pin come back as they were handed in where memory
+/// was refused before any worker started. This waits for the workers. (docs/DEFINITIONS.md, "Crews that run".)
+pub fn run_crew<S: Store + Send, G: Gate + Sync, R: Threads + Wait + Sync>(
+    rt: &R,
+    alloc: Global,
+    store: S,
+    plan: &Plan,
+    pin: Reader,
+    gate: &G,
+) -> Result<CrewEnd<S>, CrewBack<S>>
+    requires feed { IsFeed plan.now.appends }
+    requires few { plan.now.writers ≤ 64 }
+    ensures ran { IfOk result (λ end. CrewRanOn plan.now.appends plan.now.shard (S.history store) (S.history end.store)) }
+    ensures workers { IfOk result (λ end. length end.ends ≡ plan.now.writers) }
+    ensures ends { IfOk result (λ end. EndsOn plan.now.appends plan.now.shard plan.now.stops (S.history store) (S.history end.store)
+        end.ends) }
+    ensures others { IfOk result (λ end. GrowsByOthers 0 (S.history store) (S.history end.store)) }
+    ensures pin { IfOk result (λ end. end.pin ≡ pin) }
+    ensures follows { IfOk result (λ end. FollowsWhere 0 (S.history store) pin → FollowsWhere 0 (S.history end.store) end.pin) }
+    ensures memory { IfErr result (λ back. (back.store ≡ store) × (back.pin ≡ pin)) }
+{
+    let Ok(mut seats) = make_seats(alloc, plan) else {
+        return Err(CrewBack { store, pin });
+    };
+    let Ok(mut ends) = make_ends(alloc, plan) else {
+        return Err(CrewBack { store, pin });
+    };
+    let (shared, pass) = match SharedStore::new(alloc, store) {
+        Ok(made) => made,
+        Err(store) => return Err(CrewBack { store, pin }),
+    };
+    let store = work_together(
+        rt,
+        alloc,
+        shared,
+        pass,
+        gate,
+        plan,
+        seats.as_mut_slice(),
+        ends.as_mut_slice(),
+    );
+    let ends = EndList::from_items(ends);
+    Ok(CrewEnd { store, pin, ends })
+}

@@ -1,0 +1,202 @@
+// Seats of a crew.
+ghost use Rattle.std.specs.Prelude.{◌≡◌, ◌+◌, ◌*◌, ◌^◌, ◌≤◌, ◌<◌, ℕ, [], List, length, slice_index_or};
+ghost use Rattle.std.specs.List.{AllByRecursion};
+ghost use mathlib.Core.List.{IsPrefix};
+ghost use Rattle.turnstile.specs.Passes.{IsPassOf, view};
+ghost use Rattle.shared_store.specs.Passes.{told_of};
+ghost use Rattle.shared_store.specs.Trails.{entry_client};
+ghost use Rattle.appends_core.specs.Feeds.{IsFeed};
+ghost use Rattle.crew.specs.declared.stops.Stop.{Stop};
+ghost use Rattle.crew.specs.Seats.{HasNumber, HasWorked, IsPrefixOf, IsSeated, KinKeeps, NumberedFrom, PlacedFrom, SeenSame};
+ghost use Rattle.crew.specs.Seats.{Shows, ShowsSeat, Works, ends_of, share_in, shares_of};
+
+use crate::ends::WorkerEnd;
+use crate::gates::Gate;
+use crate::working::{Task, work_alone};
+use shared_store::CountedStore;
+use std::alloc::Global;
+use std::sync::Wait;
+use std::thread::Threads;
+use std::{mem, thread};
+use store_core::{ShardId, Store};
+use turnstile::{Pass, Turnstile};
+use update_core::FeedAppend;
+
+/// A worker's place in a crew: its number, its stop number if it has one, its pass, and its end.
+#[derive(Drop)]
+pub struct Seat<S: Store> {
+    pub(crate) worker: u32,
+    pub(crate) stop: Option<u64>,
+    pub(crate) pass: Option<Pass<CountedStore<S>>>,
+    pub(crate) end: WorkerEnd,
+}
+
+// The worker of a seat works to its end.
+fn sit<S: Store, G: Gate, R: Wait>(
+    rt: &R,
+    alloc: Global,
+    turnstile: &Turnstile<CountedStore<S>>,
+    gate: &G,
+    shard: ShardId,
+    appends: &[FeedAppend],
+    seat: &mut Seat<S>,
+)
+    requires seated { IsSeated turnstile.now seat.old }
+    requires feed { IsFeed appends.now }
+    ensures { Works appends.now shard turnstile.now seat.old seat.new }
+{
+    let Some(pass) = seat.pass.take() else {
+        unreachable!()
+    };
+    let task = Task {
+        worker: seat.worker,
+        stop: seat.stop,
+        shard,
+        appends,
+    };
+    let (pass, end) = work_alone(rt, alloc, turnstile, pass, gate, task);
+    seat.pass = Some(pass);
+    seat.end = end;
+}
+
+/// All workers work to their ends, each in a thread of its own.
+pub(crate) fn sit_all<S: Store + Send, G: Gate + Sync, R: Threads + Wait + Sync>(
+    rt: &R,
+    alloc: Global,
+    turnstile: &Turnstile<CountedStore<S>>,
+    gate: &G,
+    shard: ShardId,
+    appends: &[FeedAppend],
+    seats: &mut [Seat<S>],
+)
+    requires seated { AllByRecursion (IsSeated turnstile.now) seats.old }
+    requires feed { IsFeed appends.now }
+    ensures length { length seats.new ≡ length seats.old }
+    ensures worked { (i : ℕ) (d : _) → i < length seats.old
+        → Works appends.now shard turnstile.now (slice_index_or seats.old i d) (slice_index_or seats.new i d) }
+{
+    if seats.is_empty() {
+        return;
+    }
+    let count = seats.len();
+    thread::for_each_mut(
+        rt,
+        seats,
+        count,
+        &|_: usize, seat: &mut Seat<S>|
+            requires { IsSeated turnstile.now seat.now × IsFeed appends.now }
+            ensures { Works appends.entry.now shard turnstile.entry.now seat.entry.now seat.exit.now }
+        { sit(rt, alloc, turnstile, gate, shard, appends, seat) },
+    );
+}
+
+// Deals a new pass to a seat.
+fn deal_one<S: Store>(
+    turnstile: &Turnstile<CountedStore<S>>,
+    pass: &mut Pass<CountedStore<S>>,
+    seat: &mut Seat<S>,
+)
+    requires pass { IsPassOf told_of entry_client turnstile.now pass.old }
+    requires unseen { (view pass.old).gain ≡ [] }
+    requires some { 0 < (view pass.old).stock }
+    ensures pass { IsPassOf told_of entry_client turnstile.now pass.new }
+    ensures seen { SeenSame (view pass.old) (view pass.new) }
+    ensures seated { IsSeated turnstile.now seat.new }
+    ensures share { (view pass.new).share + share_in seat.new.pass ≡ (view pass.old).share }
+    ensures stock { (view pass.old).stock + 1 ≤ 2 * ((view pass.new).stock + 1) }
+    ensures number { HasNumber (view pass.old).low seat.new }
+    ensures low { (view pass.new).low ≡ (view pass.old).low + 1 }
+    ensures worker { seat.new.worker ≡ seat.old.worker }
+    ensures stop { seat.new.stop ≡ seat.old.stop }
+{
+    let Ok(other) = turnstile.split(pass) else {
+        unreachable!()
+    };
+    seat.pass = Some(other);
+}
+
+/// Deals a new pass to each seat, split off this one in the order of the seats.
+pub(crate) fn deal<S: Store>(
+    turnstile: &Turnstile<CountedStore<S>>,
+    pass: &mut Pass<CountedStore<S>>,
+    seats: &mut [Seat<S>],
+)
+    requires pass { IsPassOf told_of entry_client turnstile.now pass.old }
+    requires unseen { (view pass.old).gain ≡ [] }
+    requires room { 2 ^ length seats.old ≤ (view pass.old).stock + 1 }
+    ensures pass { IsPassOf told_of entry_client turnstile.now pass.new }
+    ensures seen { SeenSame (view pass.old) (view pass.new) }
+    ensures seated { AllByRecursion (IsSeated turnstile.now) seats.new }
+    ensures shares { (view pass.new).share + shares_of seats.new ≡ (view pass.old).share }
+    ensures numbers { NumberedFrom (view pass.old).low seats.new }
+    ensures length { length seats.new ≡ length seats.old }
+    ensures places { (stops : List Stop) (worker : ℕ) → PlacedFrom stops worker seats.old → PlacedFrom stops worker seats.new }
+{
+    let Some((first, rest)) = seats.split_first_mut() else {
+        return;
+    };
+    deal_one(turnstile, pass, first);
+    deal(turnstile, pass, rest);
+}
+
+// Takes in the pass and the end of a seat.
+fn take_in<S: Store>(
+    turnstile: &Turnstile<CountedStore<S>>,
+    pass: &mut Pass<CountedStore<S>>,
+    shard: ShardId,
+    appends: &[FeedAppend],
+    seat: &mut Seat<S>,
+    end: &mut WorkerEnd,
+)
+    requires pass { IsPassOf told_of entry_client turnstile.now pass.old }
+    requires keeps { KinKeeps appends.now shard S.history (view pass.old) }
+    requires worked { HasWorked appends.now shard turnstile.now seat.old }
+    ensures pass { IsPassOf told_of entry_client turnstile.now pass.new }
+    ensures keeps { KinKeeps appends.now shard S.history (view pass.new) }
+    ensures start { (view pass.new).start ≡ (view pass.old).start }
+    ensures share { (view pass.new).share ≡ (view pass.old).share + share_in seat.old.pass }
+    ensures own { Shows (view pass.old) (view pass.new) }
+    ensures theirs { ShowsSeat (view pass.new) seat.old }
+    ensures begins { IsPrefix (view pass.old).gain (view pass.new).gain }
+    ensures prefix { IsPrefixOf (view pass.new) seat.old }
+    ensures end { end.new ≡ seat.old.end }
+{
+    let Some(other) = seat.pass.take() else {
+        unreachable!()
+    };
+    turnstile.join(pass, other);
+    *end = mem::replace(&mut seat.end, WorkerEnd::Finished);
+}
+
+/// Takes in the passes and the ends of all seats.
+pub(crate) fn gather<S: Store>(
+    turnstile: &Turnstile<CountedStore<S>>,
+    pass: &mut Pass<CountedStore<S>>,
+    shard: ShardId,
+    appends: &[FeedAppend],
+    seats: &mut [Seat<S>],
+    ends: &mut [WorkerEnd],
+)
+    requires pass { IsPassOf told_of entry_client turnstile.now pass.old }
+    requires keeps { KinKeeps appends.now shard S.history (view pass.old) }
+    requires worked { AllByRecursion (HasWorked appends.now shard turnstile.now) seats.old }
+    requires room { length ends.old ≡ length seats.old }
+    ensures pass { IsPassOf told_of entry_client turnstile.now pass.new }
+    ensures keeps { KinKeeps appends.now shard S.history (view pass.new) }
+    ensures start { (view pass.new).start ≡ (view pass.old).start }
+    ensures shares { (view pass.new).share ≡ (view pass.old).share + shares_of seats.old }
+    ensures own { Shows (view pass.old) (view pass.new) }
+    ensures theirs { AllByRecursion (ShowsSeat (view pass.new)) seats.old }
+    ensures begins { IsPrefix (view pass.old).gain (view pass.new).gain }
+    ensures prefix { AllByRecursion (IsPrefixOf (view pass.new)) seats.old }
+    ensures ends { ends.new ≡ ends_of seats.old }
+{
+    let Some((first, rest)) = seats.split_first_mut() else {
+        return;
+    };
+    let Some((end, more)) = ends.split_first_mut() else {
+        unreachable!()
+    };
+    take_in(turnstile, pass, shard, appends, first, end);
+    gather(turnstile, pass, shard, appends, rest, more);
+}
