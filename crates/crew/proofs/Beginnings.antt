@@ -1,5 +1,5 @@
 -- A worker is ready once a command of its writer has begun.
-use Rattle.std.proofs.Common.{◌≡◌, ℕ, ◌<◌, ◌≤◌, Option, Some, List, [], ◌∷◌, length, refl, sym, ap, subst, ◌∙◌, arith}
+use Rattle.std.proofs.Common.{◌≡◌, ℕ, Option, Some, List, [], ◌∷◌, refl, sym, ap, subst, ◌∙◌, arith}
 use Rattle.std.specs.Prelude.{IsSome, IfSome}
 use Rattle.update_core.specs.declared.updates.Update.{Update}
 use Rattle.update_core.specs.declared.appends.FeedAppend.{FeedAppend}

@@ -37,7 +37,7 @@ use Rattle.shared_store.specs.Passes.{told_of}
 use Rattle.crew.specs.declared.ends.WorkerEnd.{WorkerEnd}
 use Rattle.crew.specs.declared.ends.WorkerEnd.TheVariants as ends
 use Rattle.crew.specs.Ends.{EndMeans, IsAnswered, Once, UpperIs}
-use Rattle.crew.specs.Looping.{EndCounts, EndShown}
+use Rattle.crew.specs.Looping.{EndCounts}
 use Rattle.crew.specs.declared.seats.Seat.{Seat}
 use Rattle.crew.specs.Crews.{CrewRan, CrewRanOn}
 use Rattle.crew.specs.Posts.{opened}

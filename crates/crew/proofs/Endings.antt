@@ -1,8 +1,8 @@
 -- What a poll tells a worker that writes, and what it goes on with.
-use Rattle.std.proofs.Common.{◌≡◌, ◌≢◌, ◌⊎◌, ℕ, ◌+◌, ◌-◌, ◌^◌, ◌<◌, ◌≤◌, min, true, false, Option, Some, None, List, [], ◌∷◌}
+use Rattle.std.proofs.Common.{◌≡◌, ℕ, ◌+◌, ◌-◌, ◌^◌, ◌<◌, ◌≤◌, min, true, false, Option, Some, None, List, []}
 use Rattle.std.proofs.Common.{◌++◌, length, inl, inr, refl, sym}
 use Rattle.std.proofs.Common.{ap, subst, ◌∙◌, arith, append_assoc}
-use Rattle.std.specs.Prelude.{⊤, IfSome, IsSome, IsSomeAnd, reverse}
+use Rattle.std.specs.Prelude.{IfSome, IsSome, IsSomeAnd, reverse}
 use Rattle.update_core.specs.declared.updates.Update.{Update}
 use Rattle.update_core.specs.declared.appends.FeedAppend.{FeedAppend}
 use Rattle.store_core.specs.declared.shards.ShardId.{ShardId}
@@ -31,8 +31,8 @@ use Rattle.appends_core.specs.Feeds.{end_of_feed}
 use Rattle.crew_core.specs.KeepingOn.{KeepsOn}
 use Rattle.crew_core.specs.Working.{IsWorkersEntry}
 use Rattle.crew.specs.declared.writing.WriterWorker.{WriterWorker}
-use Rattle.crew.specs.Ends.{AsksAt, IsAnswered, IsAt, Once, Reached, UpperIs, WasAnswered}
-use Rattle.crew.specs.Writing.{IsGoing, IsPlaceOf, IsTold, IsToldAt, PlaceMeans}
+use Rattle.crew.specs.Ends.{AsksAt, IsAnswered, Once, Reached, UpperIs, WasAnswered}
+use Rattle.crew.specs.Writing.{IsGoing, IsPlaceOf, IsTold, PlaceMeans}
 use Rattle.crew.proofs.Among.{ends_last}
 use Rattle.crew.proofs.Reaching.{mismatch_reaches, ok_reaches}
 

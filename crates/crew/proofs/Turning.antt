@@ -1,8 +1,8 @@
 -- What a poll of a worker's writer adds to its front.
-use Rattle.std.proofs.Common.{◌≡◌, ◌≢◌, ◌⊎◌, ℕ, ◌+◌, ◌<◌, ◌≤◌, ◌^◌, min, true, false, Option, Some, None, List, [], ◌∷◌, ◌++◌}
+use Rattle.std.proofs.Common.{◌≡◌, ◌≢◌, ◌⊎◌, ℕ, ◌+◌, ◌<◌, ◌≤◌, ◌^◌, min, false, Option, Some, None, List, [], ◌∷◌, ◌++◌}
 use Rattle.std.proofs.Common.{length, inl, inr, refl, sym, ap}
 use Rattle.std.proofs.Common.{subst, ◌∙◌, arith}
-use Rattle.std.specs.Prelude.{⊤, IfSome, reverse}
+use Rattle.std.specs.Prelude.{IfSome, reverse}
 use Rattle.update_core.specs.declared.updates.Update.{Update}
 use Rattle.update_core.specs.declared.appends.FeedAppend.{FeedAppend}
 use Rattle.update_core.specs.Updates.{cons, weight_of}
@@ -63,7 +63,7 @@ use Rattle.crew.specs.declared.ends.WorkerTurn.{WorkerTurn}
 use Rattle.crew.specs.declared.ends.WorkerTurn.TheVariants as turns
 use Rattle.crew.specs.declared.ends.WorkerEnd.TheVariants as ends
 use Rattle.crew.specs.declared.writing.WriterWorker.{WriterWorker}
-use Rattle.crew.specs.Ends.{AsksAt, EndMeans, IsAt}
+use Rattle.crew.specs.Ends.{AsksAt, EndMeans}
 use Rattle.crew.specs.Turns.{GoesOnFor, IsFaulted, IsMarked, ReadyAgain, TurnMeans, Turned}
 use Rattle.crew.specs.Writing.{Comes, IsReady, IsTold}
 use Rattle.crew.proofs.Endings.{told_of, with_writer}

@@ -19,7 +19,8 @@ work-end-requires-clause-ready g c = (
 
 pub returns-clause-same : goal.returns-clause-same
 returns-clause-same g c =
-    let first : c.new-port.result.port.known ≡ view c.args.pass = ap (λ (p : PortValue _). p.known) c.new-port.ensures ∙ c.at.ensures.known in
+    let first : c.new-port.result.port.known ≡ view c.args.pass =
+    ap (λ (p : PortValue _). p.known) c.new-port.ensures ∙ c.at.ensures.known in
     subst (λ (v : View _ Entry). SamePass v (view c.back.result)) first
     (subst (λ (w : View _ Entry). SamePass c.new-port.result.port.known w) (sym c.back.ensures.known)
     (kept_pass c.new-port.result.port c.work-end.new.port.port c.work-end.ensures.kept))

@@ -1,5 +1,4 @@
-use Rattle.std.proofs.Common.{◌≡◌, true, false, sym, ◌∙◌}
-use Rattle.appends_core.specs.Feeds.{end_of_feed}
+use Rattle.std.proofs.Common.{sym, ◌∙◌}
 use Rattle.crew.proofs.Among.{apart_by, no_place, place_some}
 use Rattle.crew.proofs.writing.place_of.Goals as goal
 

@@ -1,4 +1,4 @@
-use Rattle.std.proofs.Common.{◌∙◌, subst}
+use Rattle.std.proofs.Common.{subst}
 use Rattle.history_core.specs.declared.write_answers.WriteAnswer.{WriteAnswer}
 use Rattle.history_core.specs.declared.write_answers.WriteAnswer.TheVariants as answers
 use Rattle.load_core.specs.Fronts.{Backwards, WhereLawful}

@@ -1,0 +1,209 @@
+// Crews that run.
+ghost use Rattle.std.specs.Prelude.{◌≤◌};
+ghost use Rattle.appends_core.specs.Feeds.{IsFeed};
+
+use super::*;
+use appends_core::{AppendList, is_feed};
+use read_client::Reader;
+use std::alloc::Global;
+use std::sync::Wait;
+use std::sync::atomic::{AtomicU64, Ordering};
+use std::test::Fail;
+use std::thread::Threads;
+use store_core::{Call, FaultList, MemStore, ShardId};
+use update_core::{Datum, FeedAppend, Frontier, Update, UpdateList};
+
+// Thirteen rows from a time on, with one datum and a difference of 1.
+fn rows_from(alloc: Global, time: u64) -> Result<UpdateList, Fail> {
+    let mut rows = UpdateList::new(alloc);
+    for i in 0..13u64 {
+        let datum = Datum::of(alloc, b"d")?;
+        rows.push(Update {
+            datum,
+            time: time.saturating_add(i % 10),
+            diff: 1,
+        })?;
+    }
+    Ok(rows)
+}
+
+// So many appends, each of ten times.
+fn appends_of(alloc: Global, count: u64) -> Result<AppendList, Fail> {
+    let mut appends = AppendList::new(alloc);
+    for j in 0..count {
+        let lower = j.saturating_mul(10);
+        appends.push(FeedAppend {
+            lower,
+            upper: Frontier::at(lower.saturating_add(10)),
+            rows: rows_from(alloc, lower)?,
+        })?;
+    }
+    Ok(appends)
+}
+
+// What a crew left: how many workers have finished, how many were stopped, how many Cas were called, and how many calls were made.
+#[derive(Clone, Copy, PartialEq, Debug)]
+struct Left {
+    finished: usize,
+    stopped: usize,
+    cas: usize,
+    calls: usize,
+}
+
+fn count_cas(store: &MemStore) -> usize {
+    let mut count = 0usize;
+    for entry in store.trail() {
+        if let Call::Cas { .. } = &entry.call {
+            count = count.saturating_add(1);
+        }
+    }
+    count
+}
+
+fn left_by(end: &CrewEnd<MemStore>) -> Left {
+    let mut finished = 0usize;
+    let mut stopped = 0usize;
+    for end in end.ends.as_slice() {
+        match end {
+            WorkerEnd::Finished => finished = finished.saturating_add(1),
+            WorkerEnd::Stopped => stopped = stopped.saturating_add(1),
+            _ => {}
+        }
+    }
+    Left {
+        finished,
+        stopped,
+        cas: count_cas(&end.store),
+        calls: end.store.trail().len(),
+    }
+}
+
+// A crew over an empty store, unless the plan makes no feed or has too many workers.
+fn try_plan<R: Threads + Wait + Sync, G: Gate + Sync>(
+    rt: &R,
+    alloc: Global,
+    plan: &Plan,
+    gate: &G,
+) -> Option<Left> {
+    if !is_feed(&plan.appends) {
+        return None;
+    }
+    if plan.writers > 64 {
+        return None;
+    }
+    let store = MemStore::new(alloc, FaultList::new(alloc));
+    let pin = Reader::open(alloc, plan.shard, 0, 0);
+    match run_crew(rt, alloc, store, plan, pin, gate) {
+        Ok(end) => Some(left_by(&end)),
+        Err(_) => None,
+    }
+}
+
+fn try_crew<R: Threads + Wait + Sync>(
+    rt: &R,
+    alloc: Global,
+    writers: u32,
+    count: u64,
+    stop: Option<Stop>,
+) -> Result<Option<Left>, Fail> {
+    let mut stops = StopList::new(alloc);
+    if let Some(stop) = stop {
+        stops.push(stop)?;
+    }
+    let plan = Plan {
+        shard: ShardId(1),
+        appends: appends_of(alloc, count)?,
+        writers,
+        stops,
+    };
+    Ok(try_plan(rt, alloc, &plan, &OpenGate))
+}
+
+// One writer makes the first version, joins, appends twenty times and leaves.
+#[test]
+fn one_writer_appends_all(rt: HostRuntime) -> Result<(), Fail> {
+    let left = Left {
+        finished: 1,
+        stopped: 0,
+        cas: 23,
+        calls: 44,
+    };
+    assert_eq!(rt; try_crew(&rt, rt.alloc(), 1, 20, None)?, Some(left));
+    Ok(())
+}
+
+#[test]
+fn four_writers_finish(rt: HostRuntime) -> Result<(), Fail> {
+    let Some(left) = try_crew(&rt, rt.alloc(), 4, 20, None)? else {
+        panic!(rt; "no crew")
+    };
+    assert_eq!(rt; (left.finished, left.stopped), (4, 0));
+    Ok(())
+}
+
+// A stopped writer makes as many calls as its stop number says, also none.
+#[test]
+fn a_writer_stops(rt: HostRuntime) -> Result<(), Fail> {
+    for calls in [0u64, 5] {
+        let stop = Some(Stop { worker: 0, calls });
+        let Some(left) = try_crew(&rt, rt.alloc(), 1, 20, stop)? else {
+            panic!(rt; "no crew")
+        };
+        assert_eq!(rt; (left.finished, left.stopped), (0, 1));
+        assert_eq!(rt; left.calls as u64, calls);
+    }
+    Ok(())
+}
+
+// Holds call 1 of one worker until it is asked before call 2 of the other.
+#[derive(Drop)]
+struct TurnGate {
+    first: u32,
+    asked: AtomicU64,
+    ran_out: AtomicU64,
+}
+
+impl Gate for TurnGate {
+    fn before(&self, worker: u32, call: u64) {
+        if worker == self.first {
+            if call == 1 {
+                for turn in 0..1_000_000_000u64 {
+                    if self.asked.load(Ordering::SeqCst) == 1 {
+                        break;
+                    }
+                    if turn == 999_999_999 {
+                        self.ran_out.store(1, Ordering::SeqCst);
+                    }
+                }
+            }
+        } else if call == 2 {
+            self.asked.store(1, Ordering::SeqCst);
+        }
+    }
+}
+
+// A crew on one thread would wait for itself in one of the two orders.
+#[test]
+fn either_of_two_writers_may_wait(rt: HostRuntime) -> Result<(), Fail> {
+    for first in [0u32, 1] {
+        let plan = Plan {
+            shard: ShardId(1),
+            appends: appends_of(rt.alloc(), 1)?,
+            writers: 2,
+            stops: StopList::new(rt.alloc()),
+        };
+        let gate = TurnGate {
+            first,
+            asked: AtomicU64::new(0),
+            ran_out: AtomicU64::new(0),
+        };
+        let Some(left) = try_plan(&rt, rt.alloc(), &plan, &gate) else {
+            panic!(rt; "no crew")
+        };
+        assert_eq!(rt;
+            (left.finished, gate.ran_out.load(Ordering::SeqCst)),
+            (2, 0)
+        );
+    }
+    Ok(())
+}
