@@ -83,6 +83,7 @@ fn plain_reply(
         FeedLine::Snapshot { t } => collection.snapshot(alloc, t),
         FeedLine::Listen { t } => collection.listen(alloc, Frontier::after(t)),
         FeedLine::Since { to } => Ok(collection.advance(to)),
+        FeedLine::Compact => Ok(RunReply::Accepted),
     }
 }
 
@@ -191,6 +192,18 @@ fn feeds_are_answered(rt: HostRuntime) -> Result<(), Fail> {
             b"since 0\nsince 6\nsince 6\nsince 5\nsnapshot 5\nsnapshot 6\nsince 7\nsince 0\n".as_slice(),
             0,
             b"ok\nok\nok\nback 6\nearly 6\nlate 0\nok\nback 7\n".as_slice(),
+        ),
+        (
+            "a compaction changes no reply",
+            b"append 0 5\n3 1 apple\n4 1 pear\n.\nappend 5 10\n7 -1 apple\n.\nsince 5\nsnapshot 4\nsnapshot 5\ncompact\nsnapshot 5\nsnapshot 7\nsince 4\n".as_slice(),
+            0,
+            b"ok\nok\nok\nearly 5\n1 apple\n1 pear\n.\nok\n1 apple\n1 pear\n.\n1 pear\n.\nback 5\n".as_slice(),
+        ),
+        (
+            "compactions of an empty shard, and one after the other",
+            b"compact\ncompact\nappend 0 5\n3 1 apple\n.\ncompact\nlisten 2\n".as_slice(),
+            0,
+            b"ok\nok\nok\nok\n3 1 apple\nupto 5\n".as_slice(),
         ),
         (
             "updates of a step that cancel, over two appends",

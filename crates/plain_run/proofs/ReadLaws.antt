@@ -55,7 +55,7 @@ module _ (shard : ShardId) (client : ℕ) where
 
   module _ (a d : Option History) (number : ℕ) (listen : Option (Option ℕ)) (tried : Transition) where
     -- a reader that reads stands
-    stands_still : (list : List Update) (start : Stored) (es now before : List Entry) (e : Entry) (calls version : ℕ) →
+    pub stands_still : (list : List Update) (start : Stored) (es now before : List Entry) (e : Entry) (calls version : ℕ) →
         Between shard list start es now →
         Going shard client start es before calls → e.client ≡ client → now ≡ e ∷ before → CommitsNone (reply (replay_back start before) e) →
         Absent start shard number version (places client (calls + 1) now) → (view : View) → ViewAt shard list start es number view → ⊥

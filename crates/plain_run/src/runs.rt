@@ -49,6 +49,7 @@ fn answer<S: Store>(
         FeedLine::Snapshot { t } => session.snapshot(alloc, port, t),
         FeedLine::Listen { t } => session.listen(alloc, port, t),
         FeedLine::Since { to } => session.advance(alloc, port, to),
+        FeedLine::Compact => session.compact(alloc, port),
     }
 }
 

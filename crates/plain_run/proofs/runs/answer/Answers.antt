@@ -20,3 +20,7 @@ returns-in-Listen-clause-told g c =
 pub returns-in-Since-clause-told : goal.returns-in-Since-clause-told
 returns-in-Since-clause-told g c =
     subst (λ (line : FeedLine). Goes c.args.session.now.place.shard (g.S.Store.history c.args.port.now.store) (g.S.Store.history c.advance.new.port.store) (Replies c.args.session.now.place.shard (number_of c.args.session.now.reader) (λ view. reply_to view line) (λ view. view_after view line) c.advance.result)) (sym c.in-Since.is) c.advance.ensures.told
+
+pub returns-in-Compact-clause-told : goal.returns-in-Compact-clause-told
+returns-in-Compact-clause-told g c =
+    subst (λ (line : FeedLine). Goes c.args.session.now.place.shard (g.S.Store.history c.args.port.now.store) (g.S.Store.history c.compact.new.port.store) (Replies c.args.session.now.place.shard (number_of c.args.session.now.reader) (λ view. reply_to view line) (λ view. view_after view line) c.compact.result)) (sym c.in-Compact.is) c.compact.ensures.told
