@@ -24,11 +24,11 @@ use Rattle.merge_client.specs.declared.founds.Found.TheVariants as founds
 use Rattle.merge_client.specs.Finding.{FoundLegal, IsDueIn, found_at, found_by, look_at, look_by, places_in}
 
 -- a batch that is there
-inside : (bs : List Batch) (i : ℕ) → i < length bs → (b : Batch) × (slice_get bs i ≡ Some b)
+pub inside : (bs : List Batch) (i : ℕ) → i < length bs → (b : Batch) × (slice_get bs i ≡ Some b)
 inside bs i h = elim ((slice_get_cases bs i).1) [ inl x ↦ (x.0, x.2) | inr x ↦ absurd (let past = x.0 in omega (arith, past, h)) ]
 
 -- the two batches at a place that is due are there
-there : (s : ShardState) (i : ℕ) → due_place (weights_of s.batches) ≡ Some i → i + 1 < length s.batches
+pub there : (s : ShardState) (i : ℕ) → due_place (weights_of s.batches) ≡ Some i → i + 1 < length s.batches
 there s i e = let far = place_there (λ x y. nat_lt x (2 * y)) (weights_of s.batches) i e in omega (
   arith,
   far,
@@ -61,7 +61,7 @@ module _ (client : ℕ) (shard : ShardId) (member calls : ℕ) (list : List Upda
       (s.number, s, at.last, (stands, e))
 
   -- what a state answers without reading
-  seen_told : (found : Found) → look_by s (places_in s) ≡ looks.Answer found → Told found
+  pub seen_told : (found : Found) → look_by s (places_in s) ≡ looks.Answer found → Told found
   seen_told found e = go (due_place (weights_of s.batches)) refl
     where
       go : (o : Option ℕ) → due_place (weights_of s.batches) ≡ o → Told found
@@ -81,7 +81,7 @@ module _ (client : ℕ) (shard : ShardId) (member calls : ℕ) (list : List Upda
           absurd (cc)
 
   -- what is answered from the rows of both
-  got_told : (keys : List PartKey) (rows : List Update) → look_by s (places_in s) ≡ looks.Parts keys →
+  pub got_told : (keys : List PartKey) (rows : List Update) → look_by s (places_in s) ≡ looks.Parts keys →
       Told (found_by s rows (places_in s))
   got_told keys rows e = go (places_in s) refl
     where

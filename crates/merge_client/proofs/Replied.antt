@@ -1,40 +1,38 @@
 -- What a poll comes to by the reply to its call: never Busy, and Fault only where the call failed.
-use Rattle.std.proofs.Common.{◌≡◌, ◌==◌, ◌&&◌, ℕ, Option, Some, None, Result, Ok, Err, inl, inr, refl, sym, subst}
-use Rattle.std.specs.Prelude.{⊤, IfOk, OnErr}
-use Rattle.std.specs.declared.alloc.AllocError.{AllocError}
+use Rattle.std.proofs.Common.{◌≡◌, ◌≢◌, ◌==◌, ◌&&◌, ℕ, Option, Some, None, List, inl, inr, refl, sym, ap, subst, ◌∙◌}
+use Rattle.std.specs.Prelude.{⊤}
 use Rattle.store_core.specs.declared.replies.Reply.{Reply}
 use Rattle.store_core.specs.declared.replies.Reply.TheVariants as replies
-use Rattle.store_core.specs.declared.turns.Turn.{Turn}
-use Rattle.store_core.specs.declared.turns.Turn.TheVariants as turns
-use Rattle.store_core.specs.Histories.{History}
+use Rattle.store_core.specs.declared.versions.Version.{Version}
 use Rattle.state_core.specs.declared.refusals.Refusal.{Refusal}
 use Rattle.state_core.specs.declared.refusals.Refusal.TheVariants as refusals
 use Rattle.state_core.proofs.ListLemmas.{bool_cases}
 use Rattle.history_core.specs.declared.asked.Asked.{Asked}
 use Rattle.history_core.specs.declared.asked.Asked.TheVariants as asks
 use Rattle.history_core.specs.declared.merge_answers.MergeAnswer.{MergeAnswer}
+use Rattle.load_core.specs.declared.fetches.Fetched.{Fetched}
 use Rattle.load_core.specs.declared.polls.Poll.{Poll}
 use Rattle.load_core.specs.declared.polls.Poll.TheVariants as polls
 use Rattle.load_core.specs.declared.tries.Tried.{Tried}
 use Rattle.load_core.specs.declared.tries.Tried.TheVariants as tries
 use Rattle.change_core.specs.Changes.{outcome}
 use Rattle.change_core.proofs.Forms.{committed_as, refused_as}
+use Rattle.read_machine.specs.declared.courses.Course.{Course}
 use Rattle.read_machine.specs.declared.readings.Reading.{Reading}
-use Rattle.read_machine.specs.Courses.{counted}
+use Rattle.read_machine.specs.Courses.{MovesByFetched, counted}
 use Rattle.read_machine.specs.Readings as readings
+use Rattle.read_machine.proofs.HowRead.{HowGot, HowRead, checked, damaged, fails, gains, got, heavy, misses, scanned, spoilt, unscanned}
 use Rattle.read_machine.proofs.Replied.{read_so}
-use Rattle.merge_client.proofs.Comes.{Comes, again, comes, ends, goes}
-use Rattle.read_machine.proofs.Sound.{Ends}
 use Rattle.token_machine.specs.Outcomes.{token_outcome}
 use Rattle.token_machine.specs.Storings as storing
-use Rattle.token_machine.proofs.Ways.{fault_failed}
+use Rattle.token_machine.proofs.Ways.{failed_fault, fault_failed}
 use Rattle.merge_client.specs.declared.compactors.Compactor.{Compactor}
 use Rattle.merge_client.specs.declared.dues.Due.{Due}
 use Rattle.merge_client.specs.declared.founds.Found.{Found}
 use Rattle.merge_client.specs.declared.founds.Found.TheVariants as founds
 use Rattle.merge_client.specs.Finding.{finding}
-use Rattle.merge_client.specs.Merging.{IsReady, Moves, MovesAfterRead, MovesAfterTry, MovesBy, Prepares, Wants, change_poll, merge_poll, merge_refused, own_member, read_poll, verdict}
-use Rattle.merge_client.specs.Polling.{Asks, Called, Calls, Polled, Unpolled}
+use Rattle.merge_client.specs.Merging.{IsReady, Moves, MovesBy, change_poll, merge_poll, merge_refused, own_member, read_poll, verdict}
+use Rattle.merge_client.proofs.Asking.{read_keeps}
 
 -- a poll that isn't Busy, and is Fault only after a call that failed
 abbrev pub Fits : Reply → Poll MergeAnswer → Type 0
@@ -92,91 +90,76 @@ module _ (c : Compactor) (r : Reply) where
 
 -- ---- a reading
 
-ended_fits : (r : Reply) (p : Poll Found) → Ends p → Fits r (read_poll p)
-ended_fits r polls.Busy e = absurd e
-ended_fits r polls.More e = absurd e
-ended_fits r polls.Fault e = absurd e
-ended_fits r polls.Spent e = tt
-ended_fits r (polls.Damaged damage) e = tt
-ended_fits r (polls.Done (founds.Nothing version)) e = tt
-ended_fits r (polls.Done (founds.Due p)) e = tt
-ended_fits r (polls.Done (founds.Gone version)) e = tt
-
-read_fits : (m new : Reading Due) (r : Reply) (p : Poll Found) → readings.Moves finding m r new p → Fits r (read_poll p)
-read_fits m new r p moves = let x = read_so finding m new r p moves in so (comes finding (counted m.course) x.q r x.course
-    p x.how)
+read_fits : (m new : Reading Due) (r : Reply) (p : Poll Found) → readings.IsSound finding m → readings.Moves finding m r new p →
+    Fits r (read_poll p)
+read_fits m new r p sound moves = by p moves
   where
-    so : Comes {A = Found} r p → Fits r (read_poll p)
-    so (goes answer e) = subst (λ (z : Poll Found). Fits r (read_poll z)) (sym e) tt
-    so (again f e) = subst (λ (z : Poll Found). Fits r (read_poll z)) (sym e) f
-    so (ends o) = ended_fits r p o
+    by : (x : Poll Found) → readings.Moves finding m r new x → Fits r (read_poll x)
+    by polls.Busy h = absurd (read_keeps.never_busy m new r sound h)
+    by polls.More h = tt
+    by polls.Fault h = read_keeps.fault_failed m new r sound h
+    by polls.Spent h = tt
+    by (polls.Damaged damage) h = tt
+    by (polls.Done (founds.Nothing version)) h = tt
+    by (polls.Done (founds.Due p)) h = tt
+    by (polls.Done (founds.Gone version)) h = tt
+
+-- after a call that failed it is Fault
+read_failed : (m new : Reading Due) (p : Poll Found) → readings.Moves finding m replies.Failed new p → p ≡ polls.Fault
+read_failed m new p moves = let x = read_so finding m new replies.Failed p moves in by x.q x.course x.how
+  where
+    no_versions : (vs : List Version) → replies.Failed ≡ replies.Versions vs → ⊥
+    no_versions vs h = cc
+
+    no_bytes : (b : Option (List ℕ)) → replies.Failed ≡ replies.Bytes b → ⊥
+    no_bytes b h = cc
+
+    by : (q : Due) (k : Course) → HowRead finding (counted m.course) q replies.Failed k p → p ≡ polls.Fault
+    by q k (unscanned st r is n) = is
+    by q k (damaged vs damage st r e is n) = absurd (no_versions vs r)
+    by q k (scanned vs s st r e goes) = absurd (no_versions vs r)
+    by q k (checked key vs s st r e is n) = absurd (no_versions vs r)
+    by q k (got g fetched st moved how goes) = of how
+      where
+        of : HowGot m.course.getting replies.Failed g fetched → p ≡ polls.Fault
+        of (fails r is x) = (subst (λ (y : Fetched). MovesByFetched finding (counted m.course) q g y k p) x goes).0
+        of (gains b part r reads is how2) = absurd (no_bytes (Some b) r)
+        of (misses key r at is x) = absurd (no_bytes None r)
+        of (spoilt b key fault r reads at is x) = absurd (no_bytes (Some b) r)
+        of (heavy b part key r reads at weighs is x) = absurd (no_bytes (Some b) r)
 
 -- ---- each reply
 
-pub moved_fits : (old new : Compactor) (r : Reply) (poll : Poll MergeAnswer) → Moves old r new poll → Fits r poll
-moved_fits old new r poll moves = go old.reading.asked moves
+moved_fits : (old new : Compactor) (r : Reply) (poll : Poll MergeAnswer) → IsReady old → Moves old r new poll → Fits r poll
+moved_fits old new r poll ready moves = go old.reading.asked moves
   where
-    by_try : MovesAfterTry old r new poll → Fits r poll
-    by_try (s, tried, asked, m, asked_is, poll_is, new_is) = subst (Fits r) (sym poll_is) (verdict_fits (record old {
+    go : (o : Option Due) → MovesBy o old r new poll → Fits r poll
+    go None (s, tried, asked, m, asked_is, poll_is, new_is) = subst (Fits r) (sym poll_is) (verdict_fits (record old {
       storing = s;
     }) r asked tried
         (λ e. fault_failed old.storing s r (subst (λ (t : Tried). storing.Moves old.storing r s t) e m)))
+    go (Some q) (w, p, m, poll_is, new_is) = subst (Fits r) (sym poll_is) (read_fits old.reading w r p ready.sound.reading m)
 
-    by_read : MovesAfterRead old r new poll → Fits r poll
-    by_read (w, p, m, poll_is, new_is) = subst (Fits r) (sym poll_is) (read_fits old.reading w r p m)
+pub moved_busy : (old new : Compactor) (r : Reply) → IsReady old → ¬ Moves old r new polls.Busy
+moved_busy old new r ready moves = moved_fits old new r polls.Busy ready moves
 
-    go : (o : Option Due) → MovesBy o old r new poll → Fits r poll
-    go None m = by_try m
-    go (Some q) m = by_read m
+pub moved_fault : (old new : Compactor) (r : Reply) → IsReady old → Moves old r new polls.Fault → r ≡ replies.Failed
+moved_fault old new r ready moves = moved_fits old new r polls.Fault ready moves
 
--- ---- a poll
+fault_poll : (c : Compactor) (asked : Asked) → verdict c asked tries.Fault ≡ polls.Fault
+fault_poll c asks.Merge = refl
+fault_poll c other = refl
 
-module _ (client : ℕ) (front front_now : Option History) (old ready new : Compactor) (turn : Turn) (r : Reply) (prepares :
-    Prepares old ready)
-    (sound : IsReady ready) (is : turn ≡ turns.Reply r) (asks : Asks client front front_now ready turn) where
-  called : Called client front front_now old ready r
-  called =
-      let a : Asks client front front_now ready (turns.Reply r) = subst (λ (t : Turn). Asks client front front_now ready t)
-      is asks in
-      record { prepares = prepares; sound = sound; call = a.call; call_is = a.call_is; gains = a.sees }
+more_poll : (p : Poll Found) → p ≡ polls.Fault → read_poll p ≡ polls.Fault
+more_poll p is = ap read_poll is
 
-  calls_one : (p : Poll MergeAnswer) → Moves ready r new p → Calls client front front_now old new p
-  calls_one p m = record {
-    ready = ready;
-    reply = r;
-    called = called;
-    moves = m;
-    failed = λ e. subst (Fits r) e (moved_fits ready new r p m);
-  }
-
-  pub polled : (result : Result (Poll MergeAnswer) AllocError) → IfOk result (λ poll. Moves ready r new poll) →
-      IfOk result (λ poll. Polled client front front_now old new poll)
-  polled (Err e) m = tt
-  polled (Ok poll) m = by poll m
-    where
-      by : (p : Poll MergeAnswer) → Moves ready r new p → Polled client front front_now old new p
-      by polls.Busy m = absurd (moved_fits ready new r polls.Busy m)
-      by polls.More m = calls_one polls.More m
-      by polls.Fault m = calls_one polls.Fault m
-      by polls.Spent m = calls_one polls.Spent m
-      by (polls.Damaged d) m = calls_one (polls.Damaged d) m
-      by (polls.Done answer) m = calls_one (polls.Done answer) m
-
-  pub unpolled : (result : Result (Poll MergeAnswer) AllocError) → OnErr result (Wants ready new) →
-      OnErr result (Unpolled client front front_now old new)
-  unpolled (Ok poll) wants = tt
-  unpolled (Err e) wants = inr (record { ready = ready; reply = r; called = called; wants = wants })
-
--- a poll that has a reply isn't Busy
-pub not_busy : (ready new : Compactor) (r : Reply) (result : Result (Poll MergeAnswer) AllocError) →
-    IfOk result (λ poll. Moves ready r new poll) →
-    result ≡ Ok polls.Busy → ⊥
-not_busy ready new r (Err e) m b = let bad : Err e ≡ Ok polls.Busy = b in cc
-not_busy ready new r (Ok poll) m b = subst (Fits r) (let is : poll ≡ polls.Busy = cc in is) (moved_fits ready new r poll m)
-
--- and is Fault only where the call failed
-pub failed_so : (ready new : Compactor) (r : Reply) (result : Result (Poll MergeAnswer) AllocError) →
-    IfOk result (λ poll. Moves ready r new poll) →
-    result ≡ Ok polls.Fault → r ≡ replies.Failed
-failed_so ready new r (Err e) m b = absurd (let bad : Err e ≡ Ok polls.Fault = b in cc)
-failed_so ready new r (Ok poll) m b = subst (Fits r) (let is : poll ≡ polls.Fault = cc in is) (moved_fits ready new r poll m)
+-- while a command goes on no call fails
+pub moved_more : (old new : Compactor) (r : Reply) → Moves old r new polls.More → r ≢ replies.Failed
+moved_more old new r moves failed = go old.reading.asked (subst (λ (q : Reply). Moves old q new polls.More) failed moves)
+  where
+    go : (o : Option Due) → MovesBy o old replies.Failed new polls.More → ⊥
+    go None (s, tried, asked, m, asked_is, poll_is, new_is) =
+        let bad : polls.More ≡ polls.Fault = poll_is ∙ ap (λ (k : Tried). verdict (record old { storing = s }) asked k)
+        (failed_fault old.storing s tried m) ∙ fault_poll (record old { storing = s }) asked in cc
+    go (Some q) (w, p, m, poll_is, new_is) =
+        let bad : polls.More ≡ polls.Fault = poll_is ∙ more_poll p (read_failed old.reading w p m) in cc

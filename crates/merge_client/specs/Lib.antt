@@ -1,4 +1,6 @@
 pub mod Beginning
 pub mod Finding
+pub mod Following
+pub mod Machining
 pub mod Merging
 pub mod Polling

@@ -4,6 +4,7 @@
 mod compactors;
 mod dues;
 mod founds;
+pub mod laws;
 mod machines;
 mod pairs;
 mod polling;

@@ -1,10 +1,10 @@
-// A compactor, call by call.
-ghost use Rattle.std.specs.Prelude.{◌≡◌, Some, IfOk, IfSome, OnErr, OnOk};
-ghost use Rattle.store_core.specs.Histories.{IsReplyTo};
+// A compactor as a machine that is polled.
+ghost use Rattle.std.specs.Prelude.{◌≡◌, OnErr, OnOk};
 ghost use Rattle.load_core.specs.Setting as setting;
 ghost use Rattle.token_machine.specs.Storings as storing;
 ghost use Rattle.token_machine.specs.Storings.{resumed};
-ghost use Rattle.merge_client.specs.Merging.{IsIdle, IsOpen, IsReady, IsSound, Moves, Prepares, PreparesPair, PreparesTry, Wants, call_of, owner};
+ghost use Rattle.merge_client.specs.Machining.{machine};
+ghost use Rattle.merge_client.specs.Merging.{IsIdle, IsSound, PreparesPair, PreparesTry, owner};
 
 use crate::compactors::Compactor;
 use history_core::MergeAnswer;
@@ -16,23 +16,34 @@ use state_core::Transition;
 use std::alloc::{AllocError, Global};
 use store_core::{BytesList, Call, Reply};
 
-impl Compactor {
-    // Makes ready for the next call. It fails only for want of memory.
-    pub(crate) fn prepare(&mut self, alloc: Global) -> Result<(), AllocError>
-        requires open { IsOpen self.old }
-        requires sound { IsSound self.old }
-        ensures prepares { OnOk result (Prepares self.old self.new) }
-        ensures ready { OnOk result (IsReady self.new) }
-        ensures sound { IsSound self.new }
-        ensures memory { OnErr result (self.new ≡ self.old) }
-    {
+impl Machine for Compactor {
+    type Answer = MergeAnswer;
+
+    ghost words = { machine };
+
+    fn prepare(&mut self, alloc: Global) -> Result<(), AllocError> {
         if self.reading.asked.is_none() {
             self.prepare_try(alloc)?;
         }
         Ok(())
     }
 
-    // The same where nothing is read: a pair that is got is drafted before.
+    fn next_call(&self) -> Result<Call, AllocError> {
+        if self.reading.asked.is_some() {
+            return self.reading.next_call();
+        }
+        self.storing.next_call()
+    }
+
+    fn react(&mut self, alloc: Global, reply: Reply) -> Result<Poll<MergeAnswer>, AllocError> {
+        let poll = self.reaction(alloc, reply)?;
+        self.settle(&poll);
+        Ok(poll)
+    }
+}
+
+impl Compactor {
+    // Makes ready for the next call where nothing is read: a pair that is got is drafted before.
     fn prepare_try(&mut self, alloc: Global) -> Result<(), AllocError>
         requires sound { IsSound self.old }
         ensures prepares { OnOk result (PreparesPair self.old self.old.pair self.new) }
@@ -83,34 +94,5 @@ impl Compactor {
                 Err(fault)
             }
         }
-    }
-
-    // The call that comes next. It fails only for want of memory.
-    pub(crate) fn next_call(&self) -> Result<Call, AllocError>
-        requires ready { IsReady self.now }
-        ensures { IfOk result (λ call. call_of self.now ≡ Some call) }
-    {
-        if self.reading.asked.is_some() {
-            return self.reading.next_call();
-        }
-        self.storing.next_call()
-    }
-
-    // What a reply to that call comes to. Memory is wanted only after a call that changes nothing.
-    pub(crate) fn react(
-        &mut self,
-        alloc: Global,
-        reply: Reply,
-    ) -> Result<Poll<MergeAnswer>, AllocError>
-        requires open { IsOpen self.old }
-        requires ready { IsReady self.old }
-        requires row { IfSome (call_of self.old) (λ call. IsReplyTo call reply) }
-        ensures moves { IfOk result (λ poll. Moves self.old reply self.new poll) }
-        ensures sound { IsSound self.new }
-        ensures memory { OnErr result (Wants self.old self.new) }
-    {
-        let poll = self.reaction(alloc, reply)?;
-        self.settle(&poll);
-        Ok(poll)
     }
 }

@@ -1,16 +1,17 @@
 // A poll of a compactor.
 ghost use Rattle.std.specs.Prelude.{◌≡◌, ◌<◌, ◌≤◌, Ok, IfOk, OnErr};
 ghost use Rattle.causes.specs.Causes.{Rose};
-ghost use Rattle.store_core.specs.Ports.{GrowsByOthers, IsFailure};
 ghost use Rattle.load_core.specs.declared.polls.Poll.TheVariants as polls;
-ghost use Rattle.merge_client.specs.Merging.{IsOpen, IsReady, IsSound};
-ghost use Rattle.merge_client.specs.Polling.{Asks, Polled, Unpolled};
+ghost use Rattle.machine_core.specs.Polling as machines;
+ghost use Rattle.machine_core.specs.Polling.{CostGoesOn, LegalWhere, Polled, Unpolled};
+ghost use Rattle.merge_client.specs.Machining.{machine};
+ghost use Rattle.merge_client.specs.Merging.{IsOpen, IsSound};
 
 use crate::compactors::Compactor;
 use history_core::MergeAnswer;
 use load_core::Poll;
 use std::alloc::{AllocError, Global};
-use store_core::{Port, Turn};
+use store_core::Port;
 
 impl Compactor {
     /// Goes on with the open command by one call of the store, through this port, unless the port finds the store taken.
@@ -23,10 +24,17 @@ impl Compactor {
     ) -> Result<Poll<MergeAnswer>, AllocError>
         requires open { IsOpen self.old }
         requires sound { IsSound self.old }
-        // At most one call is made, and its reply comes to this.
-        ensures polled { IfOk result (λ poll. Polled (P.client port.old) (P.front port.old) (P.front port.new) self.old self.new poll) }
-        ensures memory { OnErr result (Unpolled (P.client port.old) (P.front port.old) (P.front port.new) self.old self.new) }
+        // Over each told front that is lawful and starts as a collection, the compactor follows from the client's own entries.
+        requires follows { machines.FollowsWhere machine (P.client port.old) (P.front port.old) self.old }
+        // At most one call is made, one that the client may make, and its reply comes to this.
+        ensures polled { IfOk result (λ poll. Polled machine (P.client port.old) (P.front port.old) (P.front port.new) self.old self.new poll) }
+        ensures memory { OnErr result (Unpolled machine (P.client port.old) (P.front port.old) (P.front port.new) self.old self.new) }
         ensures sound { IsSound self.new }
+        ensures follows { machines.FollowsWhere machine (P.client port.old) (P.front port.new) self.new }
+        // Each answer is legal at the end of the front, and nothing is damaged there.
+        ensures legal { IfOk result (λ poll. LegalWhere machine (P.client port.old) (P.front port.new) self.old self.new poll) }
+        // The bound on the calls is kept.
+        ensures cost { IfOk result (λ poll. CostGoesOn machine (P.client port.old) (P.front port.old) (P.front port.new) self.old self.new poll) }
         ensures busy { result ≡ Ok polls.Busy → P.misses port.old < P.misses port.new }
         ensures fault { result ≡ Ok polls.Fault → Rose (P.faults port.old) (P.faults port.new) }
         ensures faults { P.faults port.old ≤ P.faults port.new }
@@ -34,26 +42,6 @@ impl Compactor {
         ensures client { P.client port.new ≡ P.client port.old }
         ensures kept { P.kept port.new ≡ P.kept port.old }
     {
-        self.prepare(alloc)?;
-        match self.ask(port)? {
-            Turn::Busy => Ok(Poll::Busy),
-            Turn::Reply(reply) => self.react(alloc, reply),
-        }
-    }
-
-    // Asks the store the next call, unless the port finds the store taken.
-    fn ask<P: Port>(&self, port: &mut P) -> Result<Turn, AllocError>
-        requires ready { IsReady self.now }
-        ensures asks { IfOk result (λ turn. Asks (P.client port.old) (P.front port.old) (P.front port.new) self.now turn) }
-        ensures memory { OnErr result (GrowsByOthers (P.client port.old) (P.front port.old) (P.front port.new)) }
-        ensures busy { result ≡ Ok Turn.Busy → P.misses port.old < P.misses port.new }
-        ensures cause { IfOk result (λ turn. IsFailure turn → Rose (P.faults port.old) (P.faults port.new)) }
-        ensures faults { P.faults port.old ≤ P.faults port.new }
-        ensures misses { P.misses port.old ≤ P.misses port.new }
-        ensures client { P.client port.new ≡ P.client port.old }
-        ensures kept { P.kept port.new ≡ P.kept port.old }
-    {
-        let call = self.next_call()?;
-        port.try_call(&call)
+        machine_core::poll(self, alloc, port)
     }
 }

@@ -214,7 +214,7 @@ pub is_question : IsQuestion asking
 is_question = record {
   kind_taken = refl;
   leased = refl;
-  parts = some_parts;
+  parts = λ q s keys rules e. some_parts q s keys e;
   seen = λ q client shard member calls list start later scan before s answer at. seen_told client shard member calls list start
       later scan
       before s at q answer;

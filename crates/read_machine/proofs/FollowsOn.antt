@@ -50,7 +50,7 @@ use Rattle.read_machine.specs.Readings.{IsGetting, SoundBy}
 use Rattle.read_machine.proofs.HowRead.{IsScanStage, HowGot, gains, fails, misses, spoilt, heavy, HowRead, unscanned, damaged}
 use Rattle.read_machine.proofs.HowRead.{scanned, checked, got}
 use Rattle.read_machine.proofs.Parts.{Asks, scans, gets, asks_call, names_key}
-use Rattle.read_machine.proofs.Since.{got_more, missing_more, missing_now}
+use Rattle.read_machine.proofs.Since.{got_more, missing_more, missing_now, since_rules}
 use Rattle.read_machine.proofs.Sound.{Ends, HowSight, gone, strange as shown_strange, answers, empty, parts, at_stage, how_sight}
 use Rattle.read_machine.proofs.Sound.{missing_ends, rows_ends}
 use Rattle.read_machine.proofs.Stretch.{behind_scan, get_shows, part_there}
@@ -181,7 +181,7 @@ module _ {Q A : Type 0} (W : Questions Q A) (L : IsQuestion W) (start : Stored) 
   counted_on = record { member = joined_stays; reading = still_staged c.stage refl }
 
   -- bytes that are got are those of a part
-  brings : (o : Option ShardState) (key : PartKey) (b : List ℕ) → IsSomeAnd o (SinceGot W.kind client c start es) →
+  pub brings : (o : Option ShardState) (key : PartKey) (b : List ℕ) → IsSomeAnd o (SinceGot W.kind client c start es) →
       IsSomeAnd o (IsGetting W c q) →
       getting.key_of c.getting ≡ Some key → e.call ≡ calls.Get key → here ≡ replies.Bytes (Some b) → BringsBytes here
   brings None key b h g at call r = absurd h
@@ -191,12 +191,12 @@ module _ {Q A : Type 0} (W : Questions Q A) (L : IsQuestion W) (start : Stored) 
       ap (λ (x : List Entry). others ++ x) h.since.split ∙ behind_scan others h.since.later h.since.scan h.since.before in
       let found = part_there start c.loader.shard list st k k.number (others ++ (h.since.later ++
       (h.since.scan ∷ []))) h.since.before
-      (subst (LawfulBack start) split older) h.since.last key b (names_key W L c q k key g at)
+      (subst (LawfulBack start) split older) h.since.last key b (names_key W L c q k key (since_rules W.kind client c start es k h.since) g at)
       (subst (λ (x : List Entry). (replay_back start x).blobs key ≡ Some b) split shows) in
       subst BringsBytes (sym r) (part_reads b found.1.0 found.1.1).bytes
 
   -- with one more part, or none
-  parts_on : (o : Option ShardState) (key : PartKey) (g : Getting) (fetched : Fetched) →
+  pub parts_on : (o : Option ShardState) (key : PartKey) (g : Getting) (fetched : Fetched) →
       IsSomeAnd o (SinceGot W.kind client c start es) →
       getting.key_of c.getting ≡ Some key → e.call ≡ calls.Get key → BringsBytes here → getting.Moves c.getting here g fetched →
       IsSomeAnd o (SinceGot W.kind client (record (counted c) { getting = g }) start now)

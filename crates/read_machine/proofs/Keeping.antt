@@ -157,7 +157,7 @@ module _ {Q A : Type 0} (W : Questions Q A) where
         go None shown k = absurd k
         go (Some s) (b, x, shows, reads) k =
             let rules = version_in_state c.loader.shard s.number b s x reads in
-            let some = some_parts W L c q s k in
+            let some = some_parts W L c q s rules k in
             let many : length c.getting.keys ≡ length (keys_of (filter some.test s.batches)) = ap length some.keys_are in
             omega (arith, many, few_keys some.test s.batches rules.parts, rules.rows, rules.light)
 

@@ -21,7 +21,7 @@ use Rattle.store_core.specs.Stores.{Stored}
 use Rattle.store_core.specs.Newest.{mine_back, replay_back}
 use Rattle.state_core.specs.declared.members.Member.{Member}
 use Rattle.state_core.specs.Refusals.{member_of}
-use Rattle.state_core.specs.States.{Names, ShardState, is_writer}
+use Rattle.state_core.specs.States.{IsState, Names, ShardState, is_writer}
 use Rattle.state_core.specs.VersionReading.{most}
 use Rattle.state_core.proofs.ListLemmas.{each_map}
 use Rattle.history_core.specs.Accepting.{is_cas}
@@ -66,7 +66,7 @@ use Rattle.read_machine.proofs.HowRead.{HowGot, HowRead, IsScanStage, checked, d
 use Rattle.read_machine.proofs.HowRead.{spoilt, unscanned}
 use Rattle.read_machine.proofs.Parts.{names_key, some_parts, some_is}
 use Rattle.read_machine.proofs.Places.{gone_back, joined_owns, next_count, read_no_cas}
-use Rattle.read_machine.proofs.Since.{asked_others}
+use Rattle.read_machine.proofs.Since.{asked_others, since_rules}
 use Rattle.read_machine.proofs.Sound.{HowSight, answers, at_stage, empty, gone, how_sight, parts, strange}
 use Rattle.read_machine.proofs.Stretch.{replay_behind}
 use Rattle.read_machine.proofs.Undamaged.{got_light, got_reads, last_then, part_reads}
@@ -211,8 +211,11 @@ module _ {Q A : Type 0} (W : Questions Q A) (L : IsQuestion W) (start : Stored) 
     key : (x : PartKey) × (getting.key_of c.getting ≡ Some x) × (e.call ≡ calls.Get x)
     key = get_is W L start list client c q e others es s call_is own of st lawful shown f stage
 
+    rules : IsState k
+    rules = since_rules W.kind client c start (others ++ es) k w.since
+
     named : Names k key.0
-    named = names_key W L c q k key.0 reads key.1
+    named = names_key W L c q k key.0 rules reads key.1
 
     -- bytes that come were got of that key since the Scan
     got_now : (b : List ℕ) → rep ≡ replies.Bytes (Some b) → GotAs (mine_back then front client) key.0 b
@@ -249,7 +252,7 @@ module _ {Q A : Type 0} (W : Questions Q A) (L : IsQuestion W) (start : Stored) 
         let good : all_of b ≡ Ok found = (part_reads b found reads_as).reads in
         let same : Ok found ≡ Ok part = sym good ∙ reads_it in
         let one : found ≡ part = cc in
-        let some = some_parts W L c q k reads in
+        let some = some_parts W L c q k rules reads in
         let held2 = subst (λ (ks : List PartKey). Hold (GotAs (mine_back then front client))
         (take c.getting.place ks) c.getting.rows)
         some.keys_are held_front in
@@ -379,7 +382,7 @@ module _ {Q A : Type 0} (W : Questions Q A) (L : IsQuestion W) (start : Stored) 
       (subst (FollowsStage W.kind client c start (others ++ es)) stage later.reading) in
       let sounds = at_stage W c q s (stages.Check x) stage in
       let reads = subst (λ (o : Option ShardState). IsSomeAnd o (IsGetting W c q)) cached sounds.0 in
-      check_legal vs h is_r poll k x w (names_key W L c q k x reads sounds.1) k2 (newest_here vs h is_r k2 newest) p
+      check_legal vs h is_r poll k x w (names_key W L c q k x (since_rules W.kind client c start (others ++ es) k w.since) reads sounds.1) k2 (newest_here vs h is_r k2 newest) p
   read_legal new poll (got g fetched stage moves how by) =
       let later = asked_others W.kind start client others es of c f in
       let (k, cached, w) = some_is (SinceGot W.kind client c start (others ++ es)) c.loader.cached

@@ -12,7 +12,7 @@ use Rattle.store_core.specs.declared.calls.Call.TheVariants as calls
 use Rattle.spine_core.specs.declared.batches.Batch.{Batch}
 use Rattle.spine_core.specs.Spines.{rows_of}
 use Rattle.state_core.specs.Lists.{Among}
-use Rattle.state_core.specs.States.{IsPartCount, Names, ShardState, keys_of}
+use Rattle.state_core.specs.States.{IsPartCount, IsState, Names, ShardState, keys_of}
 use Rattle.state_core.proofs.ListLemmas.{among_back, among_front, among_split, bool_cases, each_at, each_intro}
 use Rattle.load_core.specs.Getting as getting
 use Rattle.load_core.specs.Loading.{scan_of}
@@ -49,7 +49,7 @@ some_keys p (b ∷ bs) k h =
           (some_keys p bs k (subst (λ (t : Bool). Among (λ q. q ≡ k) (keys_of (cond t (b ∷ filter p bs) (filter p bs)))) e h))
     ]
 
-all_named : (s : ShardState) (keys : List PartKey) → SomeParts s keys → AllByRecursion (Names s) keys
+pub all_named : (s : ShardState) (keys : List PartKey) → SomeParts s keys → AllByRecursion (Names s) keys
 all_named s keys p = subst (AllByRecursion (Names s)) (sym p.keys_are)
     (each_intro (Names s) (keys_of (filter p.test s.batches)) (λ k a. some_keys p.test s.batches k a))
 
@@ -66,13 +66,13 @@ few_keys test (b ∷ bs) h =
     ]
 
 module _ {Q A : Type 0} (W : Questions Q A) (L : IsQuestion W) where
-  pub some_parts : (c : Course) (q : Q) (s : ShardState) → IsGetting W c q s → SomeParts s c.getting.keys
-  some_parts c q s g = L.parts q s c.getting.keys g.keys
+  pub some_parts : (c : Course) (q : Q) (s : ShardState) → IsState s → IsGetting W c q s → SomeParts s c.getting.keys
+  some_parts c q s rules g = L.parts q s c.getting.keys rules g.keys
 
   -- a key that is read is one that the state names
-  pub names_key : (c : Course) (q : Q) (s : ShardState) (k : PartKey) → IsGetting W c q s → getting.key_of c.getting ≡ Some k →
-      Names s k
-  names_key c q s k g at = each_at (Names s) c.getting.keys k (all_named s c.getting.keys (some_parts c q s g))
+  pub names_key : (c : Course) (q : Q) (s : ShardState) (k : PartKey) → IsState s → IsGetting W c q s →
+      getting.key_of c.getting ≡ Some k → Names s k
+  names_key c q s k rules g at = each_at (Names s) c.getting.keys k (all_named s c.getting.keys (some_parts c q s rules g))
       (index_among c.getting.keys c.getting.place k at)
 
 -- ---- its call

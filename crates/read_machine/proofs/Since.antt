@@ -10,13 +10,14 @@ use Rattle.store_core.specs.Histories.{reply}
 use Rattle.store_core.specs.Ports.{Answered, OfOthers, answered}
 use Rattle.store_core.specs.Newest.{mine_back, replay_back}
 use Rattle.state_core.specs.declared.kinds.Kind.{Kind}
-use Rattle.state_core.specs.States.{ShardState}
+use Rattle.state_core.specs.States.{IsState, ShardState}
 use Rattle.state_core.specs.VersionReading.{most}
 use Rattle.history_core.specs.Discipline.{GotAs, Hold}
 use Rattle.history_core.specs.Laws.{LastIs}
 use Rattle.history_core.specs.Members.{JoinedAs}
 use Rattle.history_core.specs.Placing.{IsAnsweredScan, placed}
 use Rattle.history_core.proofs.Gaining.{mine_others}
+use Rattle.history_core.proofs.StateFacts.{state_rules}
 use Rattle.load_core.specs.Trying.{more}
 use Rattle.read_machine.specs.declared.courses.Course.{Course}
 use Rattle.read_machine.specs.declared.stages.Stage.{Stage}
@@ -24,6 +25,12 @@ use Rattle.read_machine.specs.declared.stages.Stage.TheVariants as stages
 use Rattle.read_machine.specs.Following.{FollowsAsked, FollowsStage, IsRead, SinceGot, SinceMissing, SinceScan}
 use Rattle.read_machine.specs.Questions.{NoScanOf, own_count}
 use Rattle.read_machine.proofs.Stretch.{all_more, all_others, count_more, count_others, mine_since, split_more}
+
+-- the state that the Scan showed keeps the rules of one
+pub since_rules : (kind : Kind) (client : ℕ) (c : Course) (start : Stored) (es : List Entry) (k : ShardState) →
+    SinceScan kind client c start es k → IsState k
+since_rules kind client c start es k w = state_rules c.loader.shard ((replay_back start w.before).logs c.loader.shard) k.number k
+    w.last.1
 
 -- ---- entries of others
 

@@ -11,7 +11,7 @@ use Rattle.spine_core.specs.declared.batches.Batch.{Batch}
 use Rattle.state_core.specs.declared.kinds.Kind.{Kind}
 use Rattle.state_core.specs.declared.members.Member.{Member}
 use Rattle.state_core.specs.Refusals.{member_of}
-use Rattle.state_core.specs.States.{ShardState, is_writer, keys_of}
+use Rattle.state_core.specs.States.{IsState, ShardState, is_writer, keys_of}
 use Rattle.history_core.specs.Discipline.{GotAs, Hold, LawfulBack}
 use Rattle.history_core.specs.Laws.{LastIs}
 use Rattle.history_core.specs.Legal.{Absent}
@@ -77,8 +77,8 @@ pub record IsQuestion {Q A : Type 0} (W : Questions Q A) : Type 0 where
   -- its member has a lease
   pub kind_taken : W.takes W.kind ≡ true
   pub leased : is_writer W.kind ≡ false
-  -- the parts that it reads are those of some of the state's batches
-  pub parts : (q : Q) (s : ShardState) (keys : List PartKey) → W.look q s ≡ looks.Parts keys → SomeParts s keys
+  -- the parts that it reads of a state are those of some of its batches
+  pub parts : (q : Q) (s : ShardState) (keys : List PartKey) → IsState s → W.look q s ≡ looks.Parts keys → SomeParts s keys
   -- what the last version's state answers is legal
   pub seen : (q : Q) (client : ℕ) (shard : ShardId) (member calls : ℕ) (list : List Update) (start : Stored) (later : List Entry)
       (scan : Entry) (before : List Entry) (s : ShardState) (answer : A) →

@@ -1,7 +1,0 @@
-use Rattle.merge_client.proofs.Sound.{settled_sound}
-use Rattle.merge_client.proofs.compactors.Compactor.react.Goals as goal
-
-pub returns-clause-sound : goal.returns-clause-sound
-returns-clause-sound c =
-    settled_sound c.args.self.now c.reaction.new.self c.settle.new.self c.args.reply c.in_ok-poll.poll c.requires.ready
-    c.reaction.ensures.storing c.reaction.ensures.reading c.in_ok-poll.ensures.moves c.settle.ensures
