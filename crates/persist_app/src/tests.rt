@@ -650,3 +650,41 @@ fn a_system_clock_goes_on(rt: HostRuntime) {
     assert!(rt; first > 1_500_000_000_000);
     assert!(rt; clock.now() >= first);
 }
+
+// The batches of the last version in a store's shard 1.
+fn last_batches(alloc: Global, store: &mut MemStore) -> Result<usize, Fail> {
+    let head = Call::Head { shard: ShardId(1) };
+    if let Reply::Version(Some(version)) = store.call(9, &head)? {
+        let bytes = version.bytes.as_slice();
+        if let Ok((state, _)) = decode_version(alloc, ShardId(1), version.number, bytes) {
+            return Ok(state.spine().batches().len());
+        }
+    }
+    Ok(0)
+}
+
+// 200 appends of one row each, the content at their end, a compaction, and the content again.
+fn many_appends(alloc: Global) -> Result<Vec<u8>, Fail> {
+    let mut text = Vec::new(alloc);
+    for number in 0..200 {
+        let next = number + 1;
+        let lines = format!(in alloc; "append {number} {next}\n{number} 1 d{number}\n.\n")?;
+        text.extend_from_slice(lines.as_bytes())?;
+    }
+    text.extend_from_slice(b"snapshot 199\ncompact\nsnapshot 199\n")?;
+    Ok(text)
+}
+
+#[test]
+fn a_compaction_leaves_few_batches(rt: HostRuntime) -> Result<(), Fail> {
+    let alloc = rt.alloc();
+    let feed = many_appends(alloc)?;
+    let store = MemStore::new(alloc, FaultList::new(alloc));
+    let (mut ended, taken) = ended(alloc, &run(&feed), store)?;
+    assert_eq!(rt; ended.status, 0);
+    let plain = plain_answer(alloc, &feed)?;
+    assert_eq!(rt; taken.as_slice(), plain.as_slice());
+    let batches = last_batches(alloc, &mut ended.store)?;
+    assert!(rt; batches >= 1 && batches <= 64);
+    Ok(())
+}

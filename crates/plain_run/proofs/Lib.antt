@@ -7,6 +7,8 @@ pub mod SettledLaws
 pub mod TendLaws
 pub mod KeeperLaws
 pub mod KeeperEnds
+pub mod CompactLaws
+pub mod CompactRuns
 pub mod Refused
 pub mod DriveLaws
 pub mod SessionLaws

@@ -250,7 +250,7 @@ module _ (place : Place) where
   pub closes : (a b d : Option History) (result : Result Unit SessionFault) → Goes place.shard a b (Closed place.shard (Ok tt)) →
       Goes place.shard b d (Closed place.shard result) → Goes place.shard a d (Closed place.shard result)
   closes a b d (Ok done) x y = more_going place.shard a b d (Closed place.shard (Ok tt)) (Closed place.shard (Ok done)) (Closed place.shard (Ok done)) x y
-      (λ list start es mid now b1 b2 f s. s ∙ f)
+      (λ list start es mid now b1 b2 f s. (s.0 ∙ f.0, λ settled. s.1 (f.1 settled)))
   closes a b d (Err fault) x y = failed_more place a b d (Closed place.shard (Ok tt)) fault x y
 
   -- both have joined

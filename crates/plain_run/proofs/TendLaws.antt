@@ -23,6 +23,7 @@ use Rattle.read_client.specs.Following as reader_following
 use Rattle.read_client.specs.Reading as readers
 use Rattle.read_client.proofs.Machining as read_machine
 use Rattle.maint_client.specs.Collecting.{CollectKept, collecting}
+use Rattle.feed_text.specs.declared.feed_lines.FeedLine.TheVariants.{Compact}
 use Rattle.feed_text.specs.declared.replies.RunReply.TheVariants as replies
 use Rattle.driving.specs.Drives.{Answered}
 use Rattle.driving.specs.Goings.{Goes, GrowsBy}
@@ -31,11 +32,11 @@ use Rattle.plain_run.specs.declared.places.Place.{Place}
 use Rattle.plain_run.specs.declared.session_faults.SessionFault.{SessionFault}
 use Rattle.plain_run.specs.declared.session_faults.SessionFault.TheVariants as faults
 use Rattle.plain_run.specs.declared.sessions.Session.{Session}
-use Rattle.plain_run.specs.Answering.{ReaderReady, Ready, Replies, Tends, TendsTo, number_of, renewed}
+use Rattle.plain_run.specs.Answering.{AnswersLine, ReaderReady, Ready, Tends, TendsTo, number_of, renewed}
 use Rattle.plain_run.specs.Drives.{Failed}
 use Rattle.plain_run.specs.PlainRuns.{View}
 use Rattle.plain_run.specs.Sessions.{ViewAt}
-use Rattle.plain_run.specs.Settling.{IsSettledIn, StaysSettled}
+use Rattle.plain_run.specs.Settling.{GetsSettled, IsSettledIn, StaysSettled}
 use Rattle.plain_run.proofs.DriveLaws.{lawful_last, unmoved}
 use Rattle.plain_run.proofs.Keepers.{renewed_view}
 use Rattle.plain_run.proofs.Quietly.{quiet_view}
@@ -73,27 +74,6 @@ module _ (place : Place) where
       let (there, second) = g view at in
       (there, both (replay_back start es) (replay_back start mid) (replay_back start now) first second))
   tends_more a b d reader how how2 how3 (Err fault) both x y = tends_fails a b d reader how how2 how3 fault x y
-
-  -- ---- as a reply
-
-  -- all of it is done
-  pub tends_replied : (a d : Option History) (reader : ℕ) (how : Stored → Stored → Type 0) →
-      Goes place.shard a d (TendsTo place.shard reader how (Ok tt)) →
-      Goes place.shard a d (Replies place.shard reader (λ view. replies.Accepted) (λ view. view) (Ok replies.Accepted))
-  tends_replied a d reader how went =
-      going_so place.shard a d (TendsTo place.shard reader how (Ok tt))
-      (Replies place.shard reader (λ view. replies.Accepted) (λ view. view) (Ok replies.Accepted)) went
-      (λ list start es now b f view v. (refl, (f view v).0))
-
-  -- a fault is none
-  pub tends_unreplied : (a d : Option History) (reader : ℕ) (how : Stored → Stored → Type 0) (fault : SessionFault) →
-      Goes place.shard a d (TendsTo place.shard reader how (Err fault)) →
-      Goes place.shard a d (Replies place.shard reader (λ view. replies.Accepted) (λ view. view) (Err fault))
-  tends_unreplied a d reader how faults.Damaged went = went
-  tends_unreplied a d reader how faults.Memory went = went
-  tends_unreplied a d reader how faults.Store went = went
-  tends_unreplied a d reader how faults.MembersFull went = went
-  tends_unreplied a d reader how faults.Spent went = went
 
   -- a command that was not answered
   pub failed_tends : (a d : Option History) (reader : ℕ) (how : Stored → Stored → Type 0) (fault : SessionFault) →
@@ -266,3 +246,24 @@ pub tends_as : (p q : Place) (a d : Option History) (r s : Reader) (result : Res
 tends_as p q a d r s result same member went =
     subst (λ (n : ℕ). Goes p.shard a d (Tends p.shard n result)) (ap (λ (m : Option ℕ). unwrap_or m 0) member)
     (subst (λ (z : Place). Goes z.shard a d (Tends z.shard (number_of s) result)) same went)
+
+module _ (place : Place) where
+  -- ---- as an answer to the line
+
+  -- all of it is done, and the batches are settled
+  pub compact_answered : (a d : Option History) (reader : ℕ) → Goes place.shard a d (TendsTo place.shard reader (GetsSettled place.shard) (Ok tt)) →
+      Goes place.shard a d (AnswersLine place.shard reader Compact (Ok replies.Accepted))
+  compact_answered a d reader went =
+      going_so place.shard a d (TendsTo place.shard reader (GetsSettled place.shard) (Ok tt))
+      (AnswersLine place.shard reader Compact (Ok replies.Accepted)) went
+      (λ list start es now b f view v. let (at, settled) = f view v in (refl, at, settled))
+
+  -- a fault is none
+  pub compact_failed : (a d : Option History) (reader : ℕ) (how : Stored → Stored → Type 0) (fault : SessionFault) →
+      Goes place.shard a d (TendsTo place.shard reader how (Err fault)) →
+      Goes place.shard a d (AnswersLine place.shard reader Compact (Err fault))
+  compact_failed a d reader how faults.Damaged went = went
+  compact_failed a d reader how faults.Memory went = went
+  compact_failed a d reader how faults.Store went = went
+  compact_failed a d reader how faults.MembersFull went = went
+  compact_failed a d reader how faults.Spent went = went

@@ -4,4 +4,5 @@ pub mod Endings
 pub mod Sessions
 pub mod Settling
 pub mod Drives
+pub mod Compacting
 pub mod Answering

@@ -1,5 +1,7 @@
 -- The line `compact`: what becomes of the batches and of the keeper that merges them. Entries go newest first.
-use Rattle.std.specs.Prelude.{◌≡◌, ℕ, ◌<◌, ◌≤◌, ◌^◌, List}
+use Rattle.std.specs.Prelude.{⊤, ◌≡◌, ℕ, ◌<◌, ◌≤◌, ◌^◌, Bool, true, false, List, [], ◌∷◌}
+use Rattle.feed_text.specs.declared.feed_lines.FeedLine.{FeedLine}
+use Rattle.feed_text.specs.declared.feed_lines.FeedLine.TheVariants.{Compact}
 use Rattle.store_core.specs.declared.shards.ShardId.{ShardId}
 use Rattle.store_core.specs.declared.entries.Entry.{Entry}
 use Rattle.store_core.specs.Stores.{Stored}
@@ -17,6 +19,26 @@ IsSettledIn store shard = (n : ℕ) × (s : ShardState) × LastIs store shard n 
 -- batches that are settled stay so
 abbrev pub StaysSettled : ShardId → Stored → Stored → Type 0
 StaysSettled shard old new = IsSettledIn old shard → IsSettledIn new shard
+
+-- and in the end they are, whether they were or not
+abbrev pub GetsSettled : ShardId → Stored → Stored → Type 0
+GetsSettled shard old new = IsSettledIn new shard
+
+-- whether a command is `compact`
+abbrev pub is_compact : FeedLine → Bool
+is_compact Compact = true
+is_compact _ = false
+
+-- whether the last command is `compact`
+abbrev pub ends_compact : List FeedLine → Bool
+ends_compact [] = false
+ends_compact (line ∷ []) = is_compact line
+ends_compact (line ∷ next ∷ lines) = ends_compact (next ∷ lines)
+
+-- after the line `compact` the batches are settled
+abbrev pub SettledBy : FeedLine → ShardId → Stored → Type 0
+SettledBy Compact shard store = IsSettledIn store shard
+SettledBy _ shard store = ⊤
 
 -- a keeper of this number stands in the last version's state, whose number isn't below this one
 pub record KeeperAt (shard : ShardId) (start : Stored) (es : List Entry) (member least : ℕ) : Type 0 where

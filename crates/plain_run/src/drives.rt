@@ -11,6 +11,10 @@ ghost use Rattle.read_client.specs.Polling as reading;
 ghost use Rattle.read_client.specs.Reading as readers;
 ghost use Rattle.machine_core.specs.Polling.{FollowsWhere};
 ghost use Rattle.maint_client.specs.Collecting as collecting;
+ghost use Rattle.merge_client.specs.Machining as merge_machine;
+ghost use Rattle.merge_client.specs.Following as merges;
+ghost use Rattle.merge_client.specs.Polling as merging;
+ghost use Rattle.merge_client.specs.Merging as mergers;
 ghost use Rattle.driving.specs.StoreTurns.{StoreFailed};
 ghost use Rattle.driving.specs.Goings.{Goes, GrowsBy};
 ghost use Rattle.plain_run.specs.Drives.{Driven};
@@ -18,11 +22,12 @@ ghost use Rattle.plain_run.specs.Drives.{Driven};
 use crate::places::Place;
 use crate::session_faults::SessionFault;
 use driving::{SolePort, drive};
-use history_core::{CollectAnswer, ReadAnswer, WriteAnswer};
+use history_core::{CollectAnswer, MergeAnswer, ReadAnswer, WriteAnswer};
 use maint_client::Collector;
+use merge_client::Compactor;
 use read_client::Reader;
 use std::alloc::Global;
-use store_core::Store;
+use store_core::{ShardId, Store};
 use write_client::Writer;
 
 /// Polls the open command of the writer to its end.
@@ -99,5 +104,33 @@ pub(crate) fn drive_collector<S: Store>(
 {
     port.client = client;
     let answer = drive(alloc, collector, port)?;
+    Ok(answer)
+}
+
+/// Polls the open command of a compactor to its end.
+pub(crate) fn drive_compactor<S: Store>(
+    alloc: Global,
+    compactor: &mut Compactor,
+    port: &mut SolePort<S>,
+    shard: ShardId,
+    client: u64,
+) -> Result<MergeAnswer, SessionFault>
+    requires open { mergers.IsOpen compactor.old }
+    requires sound { mergers.IsSound compactor.old }
+    requires shard { mergers.shard_of compactor.old ≡ shard }
+    requires begun { compactor.old.storing.trying.calls ≡ 0 }
+    requires follows { merges.FollowsWhere client (S.history port.old.store) compactor.old }
+    requires cost { WhereLawful (mergers.shard_of compactor.old) (S.history port.old.store) (Backwards (merging.CostAt 3 client compactor.old)) }
+    ensures told { Goes shard (S.history port.old.store) (S.history port.new.store)
+        (Driven shard merge_machine.machine client (merge_machine.kept compactor.old) result) }
+    ensures by { OnOk result (GrowsBy client (S.history port.old.store) (S.history port.new.store)) }
+    ensures ended { IfOk result (λ answer. merge_machine.Ended (merge_machine.kept compactor.old) answer compactor.new) }
+    ensures sound { mergers.IsSound compactor.new }
+    ensures follows { OnOk result (merges.FollowsWhere client (S.history port.new.store) compactor.new) }
+    ensures failed { result ≡ Err SessionFault.Store → StoreFailed (S.history port.new.store) (S.faults port.old.store) (S.faults port.new.store) }
+    ensures later { S.faults port.old.store ≤ S.faults port.new.store }
+{
+    port.client = client;
+    let answer = drive(alloc, compactor, port)?;
     Ok(answer)
 }
