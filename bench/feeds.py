@@ -1,5 +1,6 @@
 #!/usr/bin/env python3
-"""Writes a feed near the limits to standard output: few-large, many-small, distinct, or appends-N: N appends of 100 rows."""
+"""Writes a feed near the limits to standard output: few-large, many-small, distinct; appends-N, of N appends of 100 rows; or
+upkeep-N-S, of 1,900 appends of 100 rows with a compact after each Nth (0: none), and S snapshots at the end."""
 import sys
 
 
@@ -36,6 +37,13 @@ def feed(kind):
     elif kind.startswith("appends-"):
         for number in range(int(kind.removeprefix("appends-"))):
             append(out, number, 100, 1_000, draw)
+    elif kind.startswith("upkeep-"):
+        every, snapshots = map(int, kind.removeprefix("upkeep-").split("-"))
+        for number in range(1_900):
+            append(out, number, 100, 1_000, draw)
+            if every and number % every == every - 1:
+                out.append("compact")
+        out += ["snapshot 18999"] * snapshots
     else:
         sys.exit(f"no such feed: {kind}")
     return "\n".join(out) + "\n"

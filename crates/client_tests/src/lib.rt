@@ -11,3 +11,5 @@ mod merges;
 mod scenes;
 #[cfg(test)]
 mod tests;
+#[cfg(test)]
+mod upkeep;

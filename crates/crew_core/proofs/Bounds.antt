@@ -4,7 +4,7 @@ use Rattle.update_core.specs.declared.appends.FeedAppend.{FeedAppend}
 use Rattle.update_core.specs.Frontiers.{is_at}
 use Rattle.state_core.specs.Lists.{Among}
 use Rattle.state_core.proofs.ListLemmas.{bool_cases}
-use Rattle.crew_core.specs.Feeds.{FollowOn, end_from, end_of_feed, from_upper}
+use Rattle.appends_core.specs.Feeds.{FollowOn, end_from, end_of_feed, from_upper}
 use Rattle.crew_core.specs.Completing.{BoundStays, IsBound}
 use Rattle.crew_core.proofs.FeedLaws.{found_at}
 use Rattle.crew_core.proofs.Completing.{follow_from, none_at_end}

@@ -40,11 +40,12 @@ use Rattle.history_core.proofs.Quiet.{Quiet, last_stays, quiet_back}
 use Rattle.history_core.proofs.StateFacts.{state_rules}
 use Rattle.load_core.proofs.Gaining.{lawful_forth}
 use Rattle.crew_core.specs.Competing.{HasAppended, HasCollection}
-use Rattle.crew_core.specs.Feeds.{FollowOn, from_upper, rows_of, weight_of_all}
+use Rattle.appends_core.specs.Feeds.{FollowOn, from_upper, rows_of, weight_of_all}
 use Rattle.crew_core.specs.Working.{CarriesWorkers, IsOneOf, IsWorkersEntry, IsWorkersStep}
 use Rattle.crew_core.proofs.Accepting.{storers_law}
 use Rattle.crew_core.proofs.Commits.{Begun, Stepped, commits_there, what_commits}
-use Rattle.crew_core.proofs.FeedLaws.{end_on, found_at, rest_from, rows_on, weight_on}
+use Rattle.appends_core.proofs.FeedSteps.{end_on, rows_on, weight_on}
+use Rattle.crew_core.proofs.FeedLaws.{found_at, rest_from}
 
 -- ---- since stays where a writer leaves
 

@@ -10,7 +10,7 @@ use Rattle.update_core.specs.Collections.{accepted as append_accepted}
 use Rattle.update_core.specs.Frontiers.{covers, is_at}
 use Rattle.update_core.specs.Updates.{cons, weight_of}
 use Rattle.state_core.proofs.ListLemmas.{bool_cases}
-use Rattle.crew_core.specs.Feeds.{FollowOn, end_from, from_upper, rows_of, weight_of_all}
+use Rattle.appends_core.specs.Feeds.{FollowOn, end_from, from_upper, rows_of, weight_of_all}
 use Rattle.crew_core.specs.Completing.{CompleteFromEmpty, CompleteIsPlain, plain_after}
 use Rattle.crew_core.proofs.FeedLaws.{rest_from}
 

@@ -7,7 +7,7 @@ use Rattle.update_core.specs.Collections.{Collection, empty_collection}
 use Rattle.update_core.specs.Totals.{consolidated}
 use Rattle.crew_core.specs.Competing.{HasAppended}
 use Rattle.crew_core.specs.Completing.{IsBound, plain_after}
-use Rattle.crew_core.specs.Feeds.{IsFit, MakeFeed, end_of_feed, from_upper, weight_of_all}
+use Rattle.appends_core.specs.Feeds.{IsFit, IsFeed, end_of_feed, from_upper, weight_of_all}
 
 abbrev update : List ℕ → ℕ → ℤ → Update
 update datum time diff = record { datum = datum; time = time; diff = diff }
@@ -34,7 +34,7 @@ pears_are_fit = record { in_range = refl; few = omega arith }
 no_apple_is_fit : IsFit no_apple
 no_apple_is_fit = record { in_range = refl; few = omega arith }
 
-fruit_makes_a_feed : MakeFeed fruit
+fruit_makes_a_feed : IsFeed fruit
 fruit_makes_a_feed = record {
   follow = (refl, refl, (refl, refl, (refl, refl, tt)));
   fit = (apple_is_fit, (pears_are_fit, (no_apple_is_fit, tt)));

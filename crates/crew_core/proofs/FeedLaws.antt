@@ -9,7 +9,7 @@ use Rattle.update_core.specs.Frontiers.{covers, is_at}
 use Rattle.update_core.specs.Updates.{cons, weight_of}
 use Rattle.state_core.specs.Lists.{Among}
 use Rattle.state_core.proofs.ListLemmas.{bool_cases}
-use Rattle.crew_core.specs.Feeds.{FollowOn, end_from, from_upper, rows_of, weight_of_all}
+use Rattle.appends_core.specs.Feeds.{FollowOn, end_from, from_upper, rows_of, weight_of_all}
 
 some_is : (a b : ℕ) → Some a ≡ Some b → a ≡ b
 some_is a b e = cc
@@ -139,18 +139,3 @@ pub rest_from : (w u : Option ℕ) (done rest xs : List FeedAppend) → FollowOn
     from_upper (end_from u done) xs ≡ rest
 rest_from w u [] rest xs f e = e
 rest_from w u (d ∷ done) rest xs f e = rest_from w d.upper done rest xs f (next_from w u d (done ++ rest) xs f e)
-
--- ---- one more append
-
-pub rows_on : (xs : List FeedAppend) (a : FeedAppend) → rows_of (xs ++ a ∷ []) ≡ rows_of xs ++ cons a.rows
-rows_on [] a = append-nil (cons a.rows)
-rows_on (x ∷ xs) a = ap (λ (us : List Update). cons x.rows ++ us) (rows_on xs a)
-    ∙ sym (append_assoc (cons x.rows) (rows_of xs) (cons a.rows))
-
-pub weight_on : (xs : List FeedAppend) (a : FeedAppend) → weight_of_all (xs ++ a ∷ []) ≡ weight_of_all xs + weight_of a.rows
-weight_on [] a = omega arith
-weight_on (x ∷ xs) a = let h : weight_of_all (xs ++ a ∷ []) ≡ weight_of_all xs + weight_of a.rows = weight_on xs a in omega arith
-
-pub end_on : (u : Option ℕ) (xs : List FeedAppend) (a : FeedAppend) → end_from u (xs ++ a ∷ []) ≡ a.upper
-end_on u [] a = refl
-end_on u (x ∷ xs) a = end_on x.upper xs a

@@ -25,7 +25,7 @@ use Rattle.worked_histories.proofs.WorkedStands.{starts}
 use Rattle.worked_histories.proofs.WorkedVersions.{reads3, reads4, reads5}
 use Rattle.crew_core.specs.Competing.{FromWorkers, HasAppended, HasCollection}
 use Rattle.crew_core.specs.Completing.{plain_after}
-use Rattle.crew_core.specs.Feeds.{MakeFeed}
+use Rattle.appends_core.specs.Feeds.{IsFeed}
 use Rattle.crew_core.specs.Keeping.{Keeps}
 use Rattle.crew_core.specs.Working.{IsOneOf, IsWorkersEntry}
 use Rattle.crew_core.proofs.Completing.{empty_law}
@@ -145,7 +145,7 @@ grown = competing_law feed the_shard [] ((0, []) ∷ []) (first_calls 8) gain (r
 last_after : LastIs (replay_back empty_store (reverse (first_calls 11).trail)) the_shard 5 state5
 last_after = (refl, (step5, rw reads5 refl))
 
-makes_feed : MakeFeed feed
+makes_feed : IsFeed feed
 makes_feed = record {
   follow = (refl, refl, (refl, refl, tt));
   fit = (record { in_range = refl; few = omega arith }, (record { in_range = refl; few = omega arith }, tt));

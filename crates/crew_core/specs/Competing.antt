@@ -19,7 +19,7 @@ use Rattle.history_core.specs.Discipline.{Lawful, LawfulBack}
 use Rattle.history_core.specs.Legal.{AcceptedAt, CollectionIs}
 use Rattle.history_core.specs.Placing.{Commits, placed}
 use Rattle.history_core.specs.Stands.{StandsFor, accepted}
-use Rattle.crew_core.specs.Feeds.{FollowOn, end_from, from_upper, rows_of, weight_of_all}
+use Rattle.appends_core.specs.Feeds.{FollowOn, end_from, from_upper, rows_of, weight_of_all}
 use Rattle.crew_core.specs.Keeping.{Keeps}
 use Rattle.crew_core.specs.Working.{IsOneOf, IsWorkersEntry}
 

@@ -5,7 +5,7 @@ use Rattle.update_core.specs.Collections.{Collection as PlainCollection, after_a
 use Rattle.update_core.specs.Updates.{weight_of}
 use Rattle.state_core.specs.Lists.{Among}
 use Rattle.crew_core.specs.Competing.{HasAppended}
-use Rattle.crew_core.specs.Feeds.{MakeFeed, FollowOn, end_of_feed, from_upper, weight_of_all}
+use Rattle.appends_core.specs.Feeds.{IsFeed, FollowOn, end_of_feed, from_upper, weight_of_all}
 
 -- the plain collection after these appends, as one writer makes them in order
 abbrev pub plain_after : PlainCollection → List FeedAppend → PlainCollection
@@ -29,7 +29,7 @@ CompleteIsPlain =
 -- from the empty collection it is the plain one after all appends of the feed
 abbrev pub CompleteFromEmpty : Type 0
 CompleteFromEmpty =
-    (appends : List FeedAppend) (d : PlainCollection) → MakeFeed appends → HasAppended appends empty_collection d →
+    (appends : List FeedAppend) (d : PlainCollection) → IsFeed appends → HasAppended appends empty_collection d →
     d.upper ≡ end_of_feed appends → d ≡ plain_after empty_collection appends
 
 -- While nothing but appends of the feed comes, the upper stays a bound of the feed: so no worker meets one that suits none of them.

@@ -7,7 +7,7 @@ use Rattle.std.specs.List.{AllByRecursion}
 use Rattle.std.specs.Prelude.{nat_lt, ◌==◌}
 use Rattle.remap_core.specs.Offsets.{offset, NoneFalls}
 use Rattle.remap_core.specs.Bound.{IsLater, Rising, last_of}
-use Rattle.remap_core.specs.Extending.{reached, raised, before, ends_at, UpToTime}
+use Rattle.remap_core.specs.Extending.{reached, raised, before, last_time, ends_at, UpToTime}
 use Rattle.remap_core.proofs.BoundLaws.{rising_push}
 use Rattle.remap_core.proofs.RowLaws.{all_kept}
 
@@ -116,3 +116,17 @@ raise_rises f p n h q = pick (q == p) refl
 pub replaced_at : (bs : List (ℕ × List ℕ)) (t n : ℕ) (x : ℕ × List ℕ) → Rising bs → UpToTime t bs → ends_at bs t ≡ true → n ≡ length bs
     → set bs (n - 1) x ≡ before t bs ++ x ∷ []
 replaced_at bs t n x up le e is = ap (λ k. set bs (k - 1) x) is ∙ replaced bs t x up le e
+
+-- ---- the last time
+pub time_last : (bs : List (ℕ × List ℕ)) (l : ℕ × List ℕ) → last_of bs ≡ Some l → l.0 ≡ last_time bs
+time_last [] l e = cc
+time_last (b ∷ []) l e = ap (λ (k : ℕ × List ℕ). k.0) (sym (inside b l e))
+time_last (b ∷ c ∷ bs) l e = time_last (c ∷ bs) l e
+
+pub up_to_last : (bs : List (ℕ × List ℕ)) → Rising bs → UpToTime (last_time bs) bs
+up_to_last [] up = tt
+up_to_last (b ∷ []) up = (omega arith, tt)
+up_to_last (b ∷ c ∷ bs) up = let rest = up_to_last (c ∷ bs) up.1 in (le b.0 c.0 (last_time (c ∷ bs)) up.0.0.time rest.0, rest)
+  where
+    le : (x y z : ℕ) → x < y → y ≤ z → x ≤ z
+    le x y z h k = omega arith

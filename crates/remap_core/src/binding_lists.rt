@@ -2,7 +2,7 @@
 ghost use Rattle.std.specs.Prelude.{ℕ, List, ◌≡◌, ◌⊎◌, ◌<◌, ◌≤◌, ◌+◌, ◌^◌, [], ◌∷◌, ◌++◌, length, get_or, Some, None, OnOk, OnErr, IfOk};
 ghost use Rattle.std.specs.Prelude.{IfErr, IfNone, IfSome};
 ghost use Rattle.remap_core.specs.Offsets.{offset, covered, unset, NoneFalls, LeastFall};
-ghost use Rattle.remap_core.specs.Extending.{reached, raised, before, with_row, ends_at, UpToTime};
+ghost use Rattle.remap_core.specs.Extending.{reached, raised, before, last_time, with_row, ends_at, UpToTime};
 ghost use Rattle.remap_core.specs.Refusals.{IsRefusal};
 ghost use Rattle.remap_core.specs.Bound.{bind, time_at, last_of, AllBefore, IsLater, Rising};
 
@@ -129,6 +129,16 @@ fn reached_in(items: &[(u64, SourceFrontier)]) -> SourceFrontier
     }
 }
 
+// The time of the last binding.
+fn last_time(items: &[(u64, SourceFrontier)]) -> u64
+    ensures { result ≡ last_time items.now }
+{
+    match last_in(items) {
+        Some(last) => last.0,
+        None => 0,
+    }
+}
+
 // Whether the last binding is at the time.
 fn ends_at(items: &[(u64, SourceFrontier)], time: u64) -> bool
     ensures { result ≡ ends_at items.now time }
@@ -199,6 +209,21 @@ impl Bindings {
     {
         let binding = &self.items[place];
         (binding.0, &binding.1)
+    }
+
+    /// The offsets of the last binding, or 0 for each partition.
+    pub fn reached(&self) -> SourceFrontier
+        ensures { result ≡ reached self.now }
+    {
+        reached_in(&self.items)
+    }
+
+    /// The time of the last binding, or 0 where there is none. No binding is past it.
+    pub fn last_time(&self) -> u64
+        ensures time { result ≡ last_time self.now }
+        ensures up_to { UpToTime result self.now }
+    {
+        last_time(&self.items)
     }
 
     /// One more binding: `NotLater` exactly where its time isn't above the last one's, else `Back` exactly where an

@@ -21,3 +21,6 @@ pub mod WorkedCollection
 pub mod WorkedCompaction
 pub mod WorkedAnswers
 pub mod WorkedUpkeep
+pub mod WorkedLeaseStates
+pub mod WorkedLeaseLaws
+pub mod WorkedLeases

@@ -32,7 +32,7 @@ use Rattle.worked_histories.proofs.WorkedLaw.{prefixes_lawful}
 use Rattle.worked_histories.proofs.WorkedAccepted.{accepted_all}
 use Rattle.worked_histories.proofs.WorkedStands.{starts}
 
-rows_then : sum_of (early_row ∷ late_row ∷ []) 9 ≡ row_of 97 ∷ row_of 98 ∷ []
+pub rows_then : sum_of (early_row ∷ late_row ∷ []) 9 ≡ row_of 97 ∷ row_of 98 ∷ []
 unfolding consolidated
 rows_then = refl
 

@@ -5,3 +5,4 @@ pub mod WorkedFailures
 pub mod WorkedCompacted
 pub mod WorkedAnswers
 pub mod WorkedUpkeep
+pub mod WorkedLeases

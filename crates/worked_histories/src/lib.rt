@@ -3,4 +3,5 @@
 
 pub mod worked;
 pub mod worked_answers;
+pub mod worked_leases;
 pub mod worked_upkeep;

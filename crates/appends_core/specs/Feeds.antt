@@ -31,13 +31,17 @@ abbrev pub weight_of_all : List FeedAppend → ℕ
 weight_of_all [] = 0
 weight_of_all (a ∷ more) = weight_of a.rows + weight_of_all more
 
+-- a row's time is in the range
+abbrev pub IsWithin : ℕ → Option ℕ → Update → Type 0
+IsWithin lower upper u = (lower ≤ u.time) × (covers upper u.time ≡ true)
+
 -- an append has its rows in its range, and no more than one append may have
 pub record IsFit (a : FeedAppend) : Type 0 where
   pub in_range : between (Some a.lower) a.upper a.rows ≡ a.rows
   pub few : length a.rows ≤ 65536
 
--- the appends make a feed: they follow on from 0, each is fit, and together they weigh no more than a collection may
-pub record MakeFeed (appends : List FeedAppend) : Type 0 where
+-- the appends are those of a feed: they follow on from 0, each is fit, and together they weigh no more than a collection may
+pub record IsFeed (appends : List FeedAppend) : Type 0 where
   pub follow : FollowOn (Some 0) appends
   pub fit : AllByRecursion IsFit appends
   pub light : weight_of_all appends ≤ 2 ^ 62
@@ -45,3 +49,10 @@ pub record MakeFeed (appends : List FeedAppend) : Type 0 where
 -- where a feed ends
 abbrev pub end_of_feed : List FeedAppend → Option ℕ
 end_of_feed appends = end_from (Some 0) appends
+
+-- an append begins at this frontier, ends later, is fit, and weighs no more than this
+pub record MayFollow (upper : Option ℕ) (left : ℕ) (a : FeedAppend) : Type 0 where
+  pub begins : upper ≡ Some a.lower
+  pub later : covers a.upper a.lower ≡ true
+  pub fit : IsFit a
+  pub light : weight_of a.rows ≤ left

@@ -1,0 +1,2 @@
+pub mod FeedSteps
+pub mod Ranges

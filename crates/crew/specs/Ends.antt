@@ -1,0 +1,73 @@
+-- What the end of a worker says of the history until then. Entries go newest first. docs/DEFINITIONS.md, "Crews that run".
+use Rattle.std.specs.Prelude.{⊤, ◌≡◌, ◌≢◌, ℕ, ◌<◌, Option, List, [], ◌++◌, length, get_or}
+use Rattle.update_core.specs.declared.updates.Update.{Update}
+use Rattle.update_core.specs.declared.appends.FeedAppend.{FeedAppend}
+use Rattle.store_core.specs.declared.shards.ShardId.{ShardId}
+use Rattle.store_core.specs.declared.entries.Entry.{Entry}
+use Rattle.store_core.specs.Stores.{Stored}
+use Rattle.store_core.specs.Histories.{History}
+use Rattle.store_core.specs.Newest.{replay_back}
+use Rattle.state_core.specs.States.{ShardState}
+use Rattle.history_core.specs.declared.asked.Asked.{Asked}
+use Rattle.history_core.specs.declared.asked.Asked.TheVariants as asks
+use Rattle.history_core.specs.declared.write_answers.WriteAnswer.{WriteAnswer}
+use Rattle.history_core.specs.declared.write_answers.WriteAnswer.TheVariants as answers
+use Rattle.history_core.specs.Laws.{LastIs}
+use Rattle.history_core.specs.Legal.{Command, LegalWriteBack}
+use Rattle.load_core.specs.Fronts.{Backwards, WhereLawful}
+use Rattle.appends_core.specs.Feeds.{end_of_feed}
+use Rattle.crew_core.specs.Completing.{IsBound}
+use Rattle.crew.specs.declared.ends.WorkerEnd.{WorkerEnd}
+use Rattle.crew.specs.declared.ends.WorkerEnd.TheVariants as ends
+
+-- P held after some of these entries
+pub record Once (P : Stored → List Entry → List Update → Type 0) (start : Stored) (es : List Entry) (list : List Update) : Type 0 where
+  pub newer : List Entry
+  pub older : List Entry
+  pub split : es ≡ newer ++ older
+  pub holds : P start older list
+
+-- the shard's last version has this upper
+abbrev pub UpperIs : ShardId → Option ℕ → Stored → List Entry → List Update → Type 0
+UpperIs shard upper start es list =
+    (n : ℕ) × (s : ShardState) × LastIs (replay_back start es) shard n s × (s.upper ≡ upper)
+
+-- it had this upper at some place of the front, where that is told and lawful
+abbrev pub Reached : ShardId → Option ℕ → Option History → Type 0
+Reached shard upper front = WhereLawful shard front (Backwards (Once (UpperIs shard upper)))
+
+-- the append at this place
+pub record IsAt (appends : List FeedAppend) (place : ℕ) (a : FeedAppend) : Type 0 where
+  pub within : place < length appends
+  pub there : a ≡ get_or appends place a
+
+-- what a writer of a crew may ask at a place among the appends: that it opens, the append there, that it closes
+abbrev pub AsksAt : List FeedAppend → ℕ → Asked → Type 0
+AsksAt appends place (asks.OpenWriter shard) = ⊤
+AsksAt appends place (asks.Append rows expected new) =
+    (a : FeedAppend) × IsAt appends place a × (rows ≡ a.rows) × (expected ≡ a.lower) × (new ≡ a.upper)
+AsksAt appends place asks.CloseWriter = ⊤
+AsksAt appends place _ = ⊥
+
+-- the answer is legal to such a command of this client
+pub record IsAnswered (appends : List FeedAppend) (place : ℕ) (shard : ShardId) (client : ℕ) (answer : WriteAnswer) (start : Stored)
+    (es : List Entry) (list : List Update) : Type 0 where
+  pub command : Command
+  pub client_is : command.client ≡ client
+  pub shard_is : command.shard ≡ shard
+  pub may : AsksAt appends place command.asked
+  pub legal : LegalWriteBack list start es command answer
+
+-- the same at some place, and somewhere on the front
+abbrev pub WasAnswered : List FeedAppend → ShardId → ℕ → WriteAnswer → Option History → Type 0
+WasAnswered appends shard client answer front =
+    WhereLawful shard front (Backwards (Once (λ start es list. (place : ℕ) × IsAnswered appends place shard client answer start es list)))
+
+-- What an end says of the front: finished over appends, that the upper was at the feed's end; a misfit, that it was at one that is no
+-- bound of the feed; MembersFull and Heavy, that this answer was legal to a command of the worker.
+abbrev pub EndMeans : List FeedAppend → ShardId → ℕ → Option History → WorkerEnd → Type 0
+EndMeans appends shard client front ends.Finished = appends ≢ [] → Reached shard (end_of_feed appends) front
+EndMeans appends shard client front (ends.Misfit upper) = (¬ IsBound appends upper) × Reached shard upper front
+EndMeans appends shard client front (ends.MembersFull version) = WasAnswered appends shard client (answers.MembersFull version) front
+EndMeans appends shard client front (ends.Heavy weight) = WasAnswered appends shard client (answers.Heavy weight) front
+EndMeans appends shard client front _ = ⊤

@@ -1,0 +1,4 @@
+pub mod Stops
+pub mod Ends
+pub mod Turns
+pub mod Posts

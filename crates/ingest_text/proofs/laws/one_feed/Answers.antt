@@ -1,0 +1,5 @@
+use Rattle.ingest_text.proofs.OneFeed as found
+use Rattle.ingest_text.proofs.laws.one_feed.Goals as goal
+
+pub returns : goal.returns
+returns c = found.one_feed

@@ -1,0 +1,9 @@
+pub mod Reading
+pub mod Minting
+pub mod Commands
+pub mod Beginning
+pub mod Looking
+pub mod Starting
+pub mod Parts
+pub mod Operators
+pub mod Known

@@ -1,0 +1,6 @@
+use Rattle.std.proofs.Common.{arith}
+use Rattle.reclock_text.proofs.OneFeed as found
+use Rattle.reclock_text.proofs.laws.one_feed.Goals as goal
+
+pub returns : goal.returns
+returns c = λ operators bound. found.one_feed operators (omega (arith, bound))

@@ -1,0 +1,4 @@
+pub mod Saws
+pub mod Sources
+pub mod Feeds
+pub mod Replies
