@@ -8,7 +8,7 @@ use Rattle.store_core.specs.Stores.{Stored}
 use Rattle.store_core.specs.Histories.{History}
 use Rattle.store_core.specs.Newest.{replay_back}
 use Rattle.state_core.specs.declared.kinds.Kind.TheVariants.{Keeper}
-use Rattle.state_core.specs.declared.transitions.Transition.TheVariants.{Join, Leave}
+use Rattle.state_core.specs.declared.transitions.Transition.TheVariants.{Init, Join, Leave}
 use Rattle.history_core.specs.declared.asked.Asked.{Asked}
 use Rattle.history_core.specs.declared.asked.Asked.TheVariants as asks
 use Rattle.history_core.specs.declared.merge_answers.MergeAnswer.{MergeAnswer}
@@ -16,6 +16,7 @@ use Rattle.history_core.specs.declared.merge_answers.MergeAnswer.TheVariants as 
 use Rattle.load_core.specs.Fronts.{Backwards, WhereLawful}
 use Rattle.load_core.proofs.Remaining.{begun_cost}
 use Rattle.machine_core.proofs.Fronts.{everywhere}
+use Rattle.read_machine.specs.Courses as courses
 use Rattle.token_machine.specs.Storings.{begun, no_parts}
 use Rattle.merge_client.specs.declared.compactors.Compactor.{Compactor}
 use Rattle.merge_client.specs.declared.dues.Due.{Due}
@@ -220,6 +221,18 @@ nothing : {A : Type 0} (o : Option A) (P : Type 0) → IfSome o (λ x. P) → (P
 nothing None P h never = refl
 nothing (Some x) P h never = absurd (never h)
 
+-- with a merge begun
+abbrev merging_for : Compactor → ℕ → Compactor
+merging_for old member = record old {
+  asked = Some asks.Merge;
+  token = old.token + 1;
+  storing = begun (merging.unknown (merging.shard_of old)) Init no_parts;
+  reading = record {
+    course = courses.begun old.reading.course.getting old.storing.trying.loader member;
+    asked = Some (record {});
+  };
+}
+
 module _ (client : ℕ) (front : Option History) where
   pub open_cost : (shard : ShardId) (now lease : ℕ) → WhereLawful shard front (Backwards (CostAt 3 client (merging.opened shard now lease)))
   open_cost shard now lease =
@@ -230,7 +243,7 @@ module _ (client : ℕ) (front : Option History) where
       WhereLawful (merging.shard_of new) front (Backwards (CostAt 3 client new))
   merging_cost old new (n, has, is) =
       subst (λ (c : Compactor). WhereLawful (merging.shard_of c) front (Backwards (CostAt 3 client c))) (sym is)
-      (everywhere (merging.shard_of old) front (CostAt 3 client _) (λ start es list lt. omega arith))
+      (everywhere (merging.shard_of old) front (CostAt 3 client (merging_for old n)) (λ start es list lt. omega arith))
 
   pub closing_cost : (old new : Compactor) → old.asked ≡ None → merging.IsSound old →
       beginning.Changing old asks.CloseCompactor (λ member. Leave member) new →

@@ -194,11 +194,7 @@ impl Session {
     }
 
     // The reader's lease begins again.
-    fn renew<S: Store>(
-        &mut self,
-        alloc: Global,
-        port: &mut SolePort<S>,
-    ) -> Result<(), SessionFault>
+    fn renew<S: Store>(&mut self, alloc: Global, port: &mut SolePort<S>) -> Result<(), SessionFault>
         requires ready { Ready (S.history port.old.store) self.old }
         ensures told { Goes self.old.place.shard (S.history port.old.store) (S.history port.new.store) (Tends self.old.place.shard (number_of self.old.reader) result) }
         ensures ready { OnOk result (Ready (S.history port.new.store) self.new) }
@@ -233,11 +229,7 @@ impl Session {
     }
 
     // What is due is merged, by a client of its own.
-    fn merge<S: Store>(
-        &mut self,
-        alloc: Global,
-        port: &mut SolePort<S>,
-    ) -> Result<(), SessionFault>
+    fn merge<S: Store>(&mut self, alloc: Global, port: &mut SolePort<S>) -> Result<(), SessionFault>
         requires ready { Ready (S.history port.old.store) self.old }
         ensures told { Goes self.old.place.shard (S.history port.old.store) (S.history port.new.store) (TendsTo self.old.place.shard (number_of self.old.reader) (GetsSettled self.old.place.shard) result) }
         ensures ready { OnOk result (Ready (S.history port.new.store) self.new) }

@@ -1,12 +1,14 @@
-use Rattle.std.proofs.Common.{ℕ, Option, Ok, Err, sym, ap, subst, ◌∙◌}
-use Rattle.std.specs.Prelude.{unwrap_or}
+use Rattle.std.proofs.Common.{ℕ, Option, Result, Ok, Err, sym, ap, subst, ◌∙◌}
+use Rattle.std.specs.Prelude.{OnOk, unwrap_or}
 use Rattle.std.proofs.lemmas.Result.{err_from_is_err_and}
-use Rattle.driving.specs.Goings.{Goes}
+use Rattle.driving.specs.Goings.{Goes, GrowsBy}
+use Rattle.driving.proofs.GoingLaws.{grows_more}
 use Rattle.plain_run.specs.declared.session_faults.SessionFault.{SessionFault}
 use Rattle.plain_run.specs.Answering.{TendsTo}
 use Rattle.plain_run.specs.Compacting.{LeavesKeeper, keeper_of}
 use Rattle.plain_run.specs.Settling.{GetsSettled}
 use Rattle.plain_run.proofs.CompactRuns.{compacts, compacts_not}
+use Rattle.plain_run.proofs.ReplyLaws.{on_reply}
 use Rattle.plain_run.proofs.TendLaws.{failed_tends, somewhere}
 use Rattle.plain_run.proofs.compacting.merge_all.Goals as goal
 
@@ -39,4 +41,12 @@ returns-clause-told g c = λ reader.
     (subst (λ (n : ℕ). Goes c.args.shard d e (LeavesKeeper c.args.shard n c.leave.result)) number c.leave.ensures.told)
 
 pub returns-clause-by : goal.returns-clause-by
-returns-clause-by g c = ?
+returns-clause-by g c =
+    let client = c.args.client in
+    let a = g.S.Store.history c.args.port.now.store in
+    let b = g.S.Store.history c.open_compactor.new.port.store in
+    let d = g.S.Store.history c.merge_due.new.port.store in
+    let e = g.S.Store.history c.leave.new.port.store in
+    let merged = grows_more client a b d c.in_ok-compactor.ensures.by c.in_ok-merge_due.ensures.by in
+    on_reply c.leave.result (GrowsBy client a e) (λ done is.
+    grows_more client a d e merged (subst (λ (r : Result Unit SessionFault). OnOk r (GrowsBy client d e)) is c.leave.ensures.by))

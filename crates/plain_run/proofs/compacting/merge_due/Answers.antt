@@ -1,4 +1,4 @@
-use Rattle.std.proofs.Common.{◌≡◌, ◌≤◌, ℕ, Bool, true, false, Option, Ok, Err, refl, sym, ap, subst, ◌∙◌, arith}
+use Rattle.std.proofs.Common.{rules, ◌≡◌, ◌+◌, ◌≤◌, ℕ, Bool, true, false, Option, Ok, Err, refl, sym, ap, subst, ◌∙◌, arith}
 use Rattle.std.specs.Prelude.{unwrap_or}
 use Rattle.std.proofs.lemmas.Result.{err_from_is_err_and}
 use Rattle.driving.specs.Goings.{Goes}
@@ -32,11 +32,39 @@ returns-in_err-made-clause-told g c =
     (made_fails c.args.shard n a b d l.counter fault l.invariant.told
     (subst (λ (k : ℕ). Goes c.args.shard b d (MergesNext c.args.shard k (Err fault))) number c.in_err-made.ensures.told)))
 
-pub returns-then-not-clause-told : goal.returns-then-not-clause-told
-returns-then-not-clause-told g c = ?
+pub returns-then-not-made-clause-told : goal.returns-then-not-made-clause-told
+returns-then-not-made-clause-told g c =
+    let a = g.S.Store.history c.args.port.now.store in
+    let b = g.S.Store.history c.loop.port.store in
+    let d = g.S.Store.history c.merge_next.new.port.store in
+    let n = keeper_of c.args.compactor.now in
+    let l = c.loop in
+    let number = ap (λ (m : Option ℕ). unwrap_or m 0) l.invariant.member in
+    let is : c.in_ok-made.made ≡ false = search rules in
+    let next = subst (λ (made : Bool). Goes c.args.shard b d (MergesNext c.args.shard (keeper_of l.compactor) (Ok made))) is c.in_ok-made.ensures.told in
+    made_all c.args.shard n a b d l.counter l.invariant.told
+    (subst (λ (k : ℕ). Goes c.args.shard b d (MergesNext c.args.shard k (Ok false))) number next)
 
 pub loop-preserved : goal.loop-preserved
-loop-preserved g c = ?
+loop-preserved g c =
+    let a = g.S.Store.history c.args.port.now.store in
+    let b = g.S.Store.history c.loop.port.store in
+    let d = g.S.Store.history c.merge_next.new.port.store in
+    let n = keeper_of c.args.compactor.now in
+    let l = c.loop in
+    let e = c.in_ok-made.ensures in
+    let number = ap (λ (m : Option ℕ). unwrap_or m 0) l.invariant.member in
+    let is : c.in_ok-made.made ≡ true = search rules in
+    let next = subst (λ (made : Bool). Goes c.args.shard b d (MergesNext c.args.shard (keeper_of l.compactor) (Ok made))) is e.told in
+    record {
+      told = made_one c.args.shard n a b d l.counter l.invariant.told
+          (subst (λ (k : ℕ). Goes c.args.shard b d (MergesNext c.args.shard k (Ok true))) number next);
+      by = grows_more c.args.client a b d l.invariant.by e.by;
+      ready = e.ready;
+      member = e.member ∙ l.invariant.member;
+      token = e.token ∙ ap (λ k. k + 1) l.invariant.token;
+      calls = omega (arith, l.invariant.calls, c.merge_next.ensures.later);
+    }
 
 pub returns-clause-told : goal.returns-clause-told
 returns-clause-told g c =
