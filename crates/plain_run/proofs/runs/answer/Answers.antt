@@ -10,7 +10,7 @@ pub returns-in-Append-clause-told : goal.returns-in-Append-clause-told
 returns-in-Append-clause-told g c =
     subst (λ (line : FeedLine). Goes c.args.session.now.place.shard (g.S.Store.history c.args.port.now.store) (g.S.Store.history c.append.new.port.store) (AnswersLine c.args.session.now.place.shard (number_of c.args.session.now.reader) line c.append.result)) (sym c.in-Append.is)
     (line_told c.args.session.now.place.shard (g.S.Store.history c.args.port.now.store) (g.S.Store.history c.append.new.port.store)
-    (number_of c.args.session.now.reader) (Append c.in-Append.field-0) c.append.result (λ store. tt) c.append.ensures.told)
+    (number_of c.args.session.now.reader) (Append c.in-Append.append) c.append.result (λ store. tt) c.append.ensures.told)
 
 pub returns-in-Snapshot-clause-told : goal.returns-in-Snapshot-clause-told
 returns-in-Snapshot-clause-told g c =
