@@ -17,6 +17,7 @@ enum Command<'a> {
     Snapshot { t: u64 },
     Listen { t: u64 },
     Since { to: u64 },
+    Compact,
 }
 
 fn number(word: &[u8]) -> Option<u64> {
@@ -59,6 +60,9 @@ fn head(line: &[u8]) -> Option<Command<'_>> {
     if let Some(rest) = line.strip_prefix(b"append ") {
         let (lower, upper) = cut(rest)?;
         return Some(Command::Append { lower: number(lower)?, upper: frontier(upper)?, rows: Vec::new() });
+    }
+    if line == b"compact" {
+        return Some(Command::Compact);
     }
     let (word, time) = cut(line)?;
     let time = number(time)?;
@@ -159,6 +163,7 @@ fn execute(commands: Vec<Command<'_>>, out: &mut impl Write) -> io::Result<()> {
                     writeln!(out, "ok")?;
                 }
             }
+            Command::Compact => writeln!(out, "ok")?,
             Command::Listen { t } => {
                 let Some(from) = t.checked_add(1) else {
                     match upper {

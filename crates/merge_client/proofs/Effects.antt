@@ -79,7 +79,7 @@ module _ (shard : ShardId) (call : Call) (reply : Reply) where
   change_did step c asked outcomes.Spent h = h
   change_did step c asked (outcomes.Damaged damage) h = tt
   change_did step c asked (outcomes.Joined member version since) h = (step, h.0, h.1)
-  change_did step c asked (outcomes.Full version) h = h.0
+  change_did step c asked (outcomes.Full version) h = h
   change_did step c asked (outcomes.Committed version) h = in_did step asked version h
   change_did step c asked (outcomes.Gone version) h = gone_did asked version h.0
   change_did step c asked (outcomes.Back since) h = tt

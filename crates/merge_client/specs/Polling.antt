@@ -31,12 +31,13 @@ abbrev pub CommitsOne : ShardId → Call → Reply → Type 0
 CommitsOne shard call reply = (step : Transition) × CommitsStep shard step call reply
 
 -- What a poll's call has committed, by what the poll comes to: while a command goes on at most a shard's first version, an answer that
--- says so one version, unless a call before has, and no other answer anything.
+-- says so one version, unless a call before has, and no other answer anything. That the members are full is what a Scan shows.
 abbrev pub Effect : ShardId → Call → Reply → Poll MergeAnswer → Type 0
 Effect shard call reply polls.More = CommitsNone reply ⊎ CommitsFirst shard call reply
 Effect shard call reply polls.Fault = reply ≡ replies.Failed
 Effect shard call reply (polls.Done (answers.Opened member version)) =
     (step : Transition) × (c : CommitsStep shard step call reply) × (c.to.next_member ≡ member + 1)
+Effect shard call reply (polls.Done (answers.MembersFull version)) = CommitsNone reply × IsShown shard call reply
 Effect shard call reply (polls.Done (answers.Merged version)) = CommitsOne shard call reply ⊎ CommitsNone reply
 Effect shard call reply (polls.Done (answers.Renewed version)) = CommitsOne shard call reply
 Effect shard call reply (polls.Done (answers.Closed version)) = CommitsOne shard call reply ⊎ CommitsNone reply

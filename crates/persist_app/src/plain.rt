@@ -20,10 +20,12 @@ use plain_run::{Ending, Place, run};
 use std::alloc::Global;
 use store_core::{ShardId, Store};
 
-// The clients of a run.
+// The clients of a run: its writer, its reader, and from this number on those that its lines make.
 const WRITER: u64 = 0;
 
 const READER: u64 = 1;
+
+const OTHERS: u64 = 2;
 
 fn place_of(shard: ShardId) -> Place
     ensures shard { result.shard ≡ shard }
@@ -33,6 +35,7 @@ fn place_of(shard: ShardId) -> Place
         shard,
         writer: WRITER,
         reader: READER,
+        others: OTHERS,
     }
 }
 

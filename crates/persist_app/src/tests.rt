@@ -83,6 +83,7 @@ fn plain_reply(
         FeedLine::Snapshot { t } => collection.snapshot(alloc, t),
         FeedLine::Listen { t } => collection.listen(alloc, Frontier::after(t)),
         FeedLine::Since { to } => Ok(collection.advance(to)),
+        FeedLine::Compact => Ok(RunReply::Accepted),
     }
 }
 
@@ -191,6 +192,18 @@ fn feeds_are_answered(rt: HostRuntime) -> Result<(), Fail> {
             b"since 0\nsince 6\nsince 6\nsince 5\nsnapshot 5\nsnapshot 6\nsince 7\nsince 0\n".as_slice(),
             0,
             b"ok\nok\nok\nback 6\nearly 6\nlate 0\nok\nback 7\n".as_slice(),
+        ),
+        (
+            "a compaction changes no reply",
+            b"append 0 5\n3 1 apple\n4 1 pear\n.\nappend 5 10\n7 -1 apple\n.\nsince 5\nsnapshot 4\nsnapshot 5\ncompact\nsnapshot 5\nsnapshot 7\nsince 4\n".as_slice(),
+            0,
+            b"ok\nok\nok\nearly 5\n1 apple\n1 pear\n.\nok\n1 apple\n1 pear\n.\n1 pear\n.\nback 5\n".as_slice(),
+        ),
+        (
+            "compactions of an empty shard, and one after the other",
+            b"compact\ncompact\nappend 0 5\n3 1 apple\n.\ncompact\nlisten 2\n".as_slice(),
+            0,
+            b"ok\nok\nok\nok\n3 1 apple\nupto 5\n".as_slice(),
         ),
         (
             "updates of a step that cancel, over two appends",
@@ -636,4 +649,42 @@ fn a_system_clock_goes_on(rt: HostRuntime) {
     let first = clock.now();
     assert!(rt; first > 1_500_000_000_000);
     assert!(rt; clock.now() >= first);
+}
+
+// The batches of the last version in a store's shard 1.
+fn last_batches(alloc: Global, store: &mut MemStore) -> Result<usize, Fail> {
+    let head = Call::Head { shard: ShardId(1) };
+    if let Reply::Version(Some(version)) = store.call(9, &head)? {
+        let bytes = version.bytes.as_slice();
+        if let Ok((state, _)) = decode_version(alloc, ShardId(1), version.number, bytes) {
+            return Ok(state.spine().batches().len());
+        }
+    }
+    Ok(0)
+}
+
+// 200 appends of one row each, the content at their end, a compaction, and the content again.
+fn many_appends(alloc: Global) -> Result<Vec<u8>, Fail> {
+    let mut text = Vec::new(alloc);
+    for number in 0..200 {
+        let next = number + 1;
+        let lines = format!(in alloc; "append {number} {next}\n{number} 1 d{number}\n.\n")?;
+        text.extend_from_slice(lines.as_bytes())?;
+    }
+    text.extend_from_slice(b"snapshot 199\ncompact\nsnapshot 199\n")?;
+    Ok(text)
+}
+
+#[test]
+fn a_compaction_leaves_few_batches(rt: HostRuntime) -> Result<(), Fail> {
+    let alloc = rt.alloc();
+    let feed = many_appends(alloc)?;
+    let store = MemStore::new(alloc, FaultList::new(alloc));
+    let (mut ended, taken) = ended(alloc, &run(&feed), store)?;
+    assert_eq!(rt; ended.status, 0);
+    let plain = plain_answer(alloc, &feed)?;
+    assert_eq!(rt; taken.as_slice(), plain.as_slice());
+    let batches = last_batches(alloc, &mut ended.store)?;
+    assert!(rt; batches >= 1 && batches <= 64);
+    Ok(())
 }

@@ -2,6 +2,13 @@ pub mod Examples
 pub mod Quietly
 pub mod Stepped
 pub mod Views
+pub mod Keepers
+pub mod SettledLaws
+pub mod TendLaws
+pub mod KeeperLaws
+pub mod KeeperEnds
+pub mod CompactLaws
+pub mod CompactRuns
 pub mod Refused
 pub mod DriveLaws
 pub mod SessionLaws

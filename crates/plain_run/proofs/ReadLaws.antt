@@ -31,7 +31,8 @@ use Rattle.plain_run.specs.Sessions.{QuietSince, ViewAt}
 use Rattle.plain_run.proofs.DriveLaws.{lawful_last, unmoved}
 use Rattle.plain_run.proofs.Quietly.{quiet_view}
 use Rattle.plain_run.proofs.Refused.{scan_absent, scan_listen, scan_since, scan_snapshot}
-use Rattle.plain_run.proofs.Views.{advances_since, left_keeps}
+use Rattle.plain_run.proofs.SettledLaws.{leave_closes}
+use Rattle.plain_run.proofs.Views.{advances_since}
 use Rattle.plain_run.proofs.SessionLaws.{all_quiet}
 use Rattle.store_core.specs.declared.shards.ShardId.{ShardId}
 
@@ -55,7 +56,7 @@ module _ (shard : ShardId) (client : ℕ) where
 
   module _ (a d : Option History) (number : ℕ) (listen : Option (Option ℕ)) (tried : Transition) where
     -- a reader that reads stands
-    stands_still : (list : List Update) (start : Stored) (es now before : List Entry) (e : Entry) (calls version : ℕ) →
+    pub stands_still : (list : List Update) (start : Stored) (es now before : List Entry) (e : Entry) (calls version : ℕ) →
         Between shard list start es now →
         Going shard client start es before calls → e.client ≡ client → now ≡ e ∷ before → CommitsNone (reply (replay_back start before) e) →
         Absent start shard number version (places client (calls + 1) now) → (view : View) → ViewAt shard list start es number view → ⊥
@@ -207,13 +208,9 @@ module _ (shard : ShardId) (client : ℕ) where
             (Leave number) asks.CloseReader) answer list start es now
 
         go : (answer : ReadAnswer) (list : List Update) (start : Stored) (es now : List Entry) → Between shard list start es now →
-            Read answer list start es now →
-            accepted shard list start now ≡ accepted shard list start es
+            Read answer list start es now → Closed shard (Ok tt) list start es now
         go (reads.Closed version) list start es now b x =
-            ap (accepted shard list start) x.split
-            ∙ left_keeps shard list start b.stands x.entry x.before
-            (lawful_last shard list start es now x.before x.entry b x.split) number x.effect.effect
-            ∙ (unmoved shard client list start es now x.before x.entry x.calls b x.split x.going).accepts
+            leave_closes shard client list start es now x.before x.entry x.calls b x.going x.split number x.effect.effect
         go (reads.Opened member version since) list start es now b x = absurd x.legal.0
         go (reads.MembersFull version) list start es now b x = absurd x.legal.0
         go (reads.Rows rows) list start es now b x = absurd x.legal.0

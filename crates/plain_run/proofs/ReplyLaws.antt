@@ -1,5 +1,5 @@
 -- A session's calls as its code makes them.
-use Rattle.std.proofs.Common.{◌≡◌, ℕ, ◌+◌, arith, true, false, Option, Some, None, Result, Ok, Err, List, length, refl, sym, ap, subst, ◌∙◌}
+use Rattle.std.proofs.Common.{◌≡◌, ◌≢◌, ℕ, ◌+◌, arith, true, false, Option, Some, None, Result, Ok, Err, List, length, refl, sym, ap, subst, ◌∙◌}
 use Rattle.std.specs.Prelude.{IsSome, OnOk, position, unwrap_or}
 use Rattle.update_core.specs.declared.updates.Update.{Update}
 use Rattle.store_core.specs.declared.entries.Entry.{Entry}
@@ -86,7 +86,7 @@ the_some (Some n) h = (n, refl)
 module _ (place : Place) where
   -- ---- while the other client works
 
-  writer_waits : AreApart place → (a d : Option History) (w : Writer) → GrowsBy place.reader a d → WriterReady place.shard place.writer a w → WriterReady place.shard place.writer d w
+  pub writer_waits : place.writer ≢ place.reader → (a d : Option History) (w : Writer) → GrowsBy place.reader a d → WriterReady place.shard place.writer a w → WriterReady place.shard place.writer d w
   writer_waits apart a d w by ready = record {
     shard = ready.shard;
     sound = ready.sound;
@@ -95,7 +95,7 @@ module _ (place : Place) where
     member = ready.member;
   }
 
-  pub reader_waits : AreApart place → (a d : Option History) (r : Reader) → GrowsBy place.writer a d → ReaderReady place.shard place.reader a r → ReaderReady place.shard place.reader d r
+  pub reader_waits : place.writer ≢ place.reader → (a d : Option History) (r : Reader) → GrowsBy place.writer a d → ReaderReady place.shard place.reader a r → ReaderReady place.shard place.reader d r
   reader_waits apart a d r by ready = record {
     shard = ready.shard;
     sound = ready.sound;
@@ -150,13 +150,15 @@ module _ (place : Place) where
       over.member ∙ read_keeps begun.member answer reply is ∙ ap (λ (k : read.Kept). k.member) b.kept ∙ sym b.had
 
   -- a session after a reader's command that was answered with a reply
-  pub ready_read : (a d : Option History) (writer : Writer) (old begun new : Reader) (listen : Option (Option ℕ)) (asked : Asked)
+  pub ready_read : (now next : ℕ) (a d : Option History) (writer : Writer) (old begun new : Reader) (listen : Option (Option ℕ)) (asked : Asked)
       (answer : ReadAnswer)
-      (reply : RunReply) → Ready a (record { place = place; writer = writer; reader = old }) → Begun old begun listen asked → GrowsBy place.reader a d →
+      (reply : RunReply) → Ready a (record { place = place; writer = writer; reader = old; now = now; next = next }) → Begun old begun listen asked → GrowsBy place.reader a d →
       read.Ended (read.kept begun) answer new → readers.IsSound new → reader_following.FollowsWhere place.reader d new → read_reply answer ≡ Ok reply →
-      Ready d (record { place = place; writer = writer; reader = new })
-  ready_read a d writer old begun new listen asked answer reply ready b by over sound follows is = record {
+      Ready d (record { place = place; writer = writer; reader = new; now = now; next = next })
+  ready_read now next a d writer old begun new listen asked answer reply ready b by over sound follows is = record {
     apart = ready.apart;
+    above_writer = ready.above_writer;
+    above_reader = ready.above_reader;
     writer = writer_waits ready.apart a d writer by ready.writer;
     reader = record {
       shard = over.shard ∙ ap (λ (k : read.Kept). k.shard) b.kept;
@@ -220,14 +222,16 @@ module _ (place : Place) where
         };
       })
 
-  pub ready_written : (a d : Option History) (old begun new : Writer) (reader : Reader) (rows : List Update) (lower : ℕ) (upper : Option ℕ)
-      (answer : WriteAnswer) (reply : RunReply) → Ready a (record { place = place; writer = old; reader = reader }) →
+  pub ready_written : (now next : ℕ) (a d : Option History) (old begun new : Writer) (reader : Reader) (rows : List Update) (lower : ℕ) (upper : Option ℕ)
+      (answer : WriteAnswer) (reply : RunReply) → Ready a (record { place = place; writer = old; reader = reader; now = now; next = next }) →
       BegunAppend old begun rows lower upper → GrowsBy place.writer a d →
       write.Ended (write.kept begun) answer new → writers.IsSound new → writer_following.FollowsWhere place.writer d new →
       write_reply answer ≡ Ok reply →
-      Ready d (record { place = place; writer = new; reader = reader })
-  ready_written a d old begun new reader rows lower upper answer reply ready b by over sound follows is = record {
+      Ready d (record { place = place; writer = new; reader = reader; now = now; next = next })
+  ready_written now next a d old begun new reader rows lower upper answer reply ready b by over sound follows is = record {
     apart = ready.apart;
+    above_writer = ready.above_writer;
+    above_reader = ready.above_reader;
     writer = record {
       shard = over.shard ∙ ap (λ (k : write.Kept). k.shard) b.kept;
       sound = sound;
@@ -246,21 +250,23 @@ module _ (place : Place) where
   pub closes : (a b d : Option History) (result : Result Unit SessionFault) → Goes place.shard a b (Closed place.shard (Ok tt)) →
       Goes place.shard b d (Closed place.shard result) → Goes place.shard a d (Closed place.shard result)
   closes a b d (Ok done) x y = more_going place.shard a b d (Closed place.shard (Ok tt)) (Closed place.shard (Ok done)) (Closed place.shard (Ok done)) x y
-      (λ list start es mid now b1 b2 f s. s ∙ f)
+      (λ list start es mid now b1 b2 f s. (s.0 ∙ f.0, λ settled. s.1 (f.1 settled)))
   closes a b d (Err fault) x y = failed_more place a b d (Closed place.shard (Ok tt)) fault x y
 
   -- both have joined
-  pub opens_both : (a b d : Option History) (writer : Writer) (reader : Reader) → Goes place.shard a b (OpensWriter place.shard (Ok writer)) →
-      Goes place.shard b d (OpensReader place.shard (Ok reader)) → Goes place.shard a d (Opens place.shard (Ok (record { place = place; writer = writer; reader = reader })))
-  opens_both a b d writer reader x y =
+  pub opens_both : (now : ℕ) (a b d : Option History) (writer : Writer) (reader : Reader) → Goes place.shard a b (OpensWriter place.shard (Ok writer)) →
+      Goes place.shard b d (OpensReader place.shard (Ok reader)) → Goes place.shard a d (Opens place.shard (Ok (record { place = place; writer = writer; reader = reader; now = now; next = place.others })))
+  opens_both now a b d writer reader x y =
       more_going place.shard a b d (OpensWriter place.shard (Ok writer)) (OpensReader place.shard (Ok reader))
-      (Opens place.shard (Ok (record { place = place; writer = writer; reader = reader }))) x y (λ list start es mid now b1 b2 f s. λ view at. s view (f view at))
+      (Opens place.shard (Ok (record { place = place; writer = writer; reader = reader; now = now; next = place.others }))) x y (λ list start es mid fs b1 b2 f s. λ view at. s view (f view at))
 
-  pub ready_both : AreApart place → (a d : Option History) (writer : Writer) (reader : Reader) → GrowsBy place.reader a d → WriterReady place.shard place.writer a writer → ReaderReady place.shard place.reader d reader →
-      Ready d (record { place = place; writer = writer; reader = reader })
-  ready_both apart a d writer reader by w r = record {
-    apart = apart;
-    writer = writer_waits apart a d writer by w;
+  pub ready_both : (now : ℕ) → AreApart place → (a d : Option History) (writer : Writer) (reader : Reader) → GrowsBy place.reader a d → WriterReady place.shard place.writer a writer → ReaderReady place.shard place.reader d reader →
+      Ready d (record { place = place; writer = writer; reader = reader; now = now; next = place.others })
+  ready_both now apart a d writer reader by w r = record {
+    apart = apart.apart;
+    above_writer = apart.writer;
+    above_reader = apart.reader;
+    writer = writer_waits apart.apart a d writer by w;
     reader = r;
   }
 

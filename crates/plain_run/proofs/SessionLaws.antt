@@ -84,7 +84,7 @@ module _ (shard : ShardId) where
     last = (s.last.0, s.last.1, s.last.2, go s.last.0 s.last.1 s.last.3);
   }
 
-  full : (client : ℕ) (start : Stored) (es now before : List Entry) (e : Entry) (calls version : ℕ) →
+  pub full : (client : ℕ) (start : Stored) (es now before : List Entry) (e : Entry) (calls version : ℕ) →
       Going shard client start es before calls →
       e.client ≡ client → now ≡ e ∷ before → IsShown shard e.call (reply (replay_back start before) e) →
       Full start shard version (places client (calls + 1) now) → ScannedFull shard start es now

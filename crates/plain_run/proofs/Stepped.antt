@@ -62,7 +62,7 @@ pub record Stepped (shard : ShardId) (list : List Update) (start : Stored) (step
   pub rows : appended (replay_back start es) shard e e.call ≡ appended_by (replay_back start es) (Some (to, step))
 
 -- a Cas that was answered Committed committed
-commits_by : (shard : ShardId) (start : Stored) (e : Entry) (es : List Entry) (expected : Option ℕ) (bytes : List ℕ) (version : ℕ) →
+pub commits_by : (shard : ShardId) (start : Stored) (e : Entry) (es : List Entry) (expected : Option ℕ) (bytes : List ℕ) (version : ℕ) →
     e.call ≡ calls.Cas shard expected bytes →
     reply (replay_back start es) e ≡ replies.Committed version → TookCas ((replay_back start es).logs shard) expected e.outcome version
 commits_by shard start e es expected bytes version c r =

@@ -73,11 +73,11 @@ view_own shard list start es reader view n s P v last stands =
 -- ---- members that are changed
 
 -- the member keeps its number and kind
-record Alike (f : Member → Member) : Type 0 where
+pub record Alike (f : Member → Member) : Type 0 where
   pub number : (m : Member) → (f m).number ≡ m.number
   pub kind : (m : Member) → (f m).kind ≡ m.kind
 
-stands_changed : (n reader : ℕ) (f : Member → Member) (P Q : Member → Type 0) (ms : List Member) → Alike f → ((m : Member) → P m → Q m) →
+pub stands_changed : (n reader : ℕ) (f : Member → Member) (P Q : Member → Type 0) (ms : List Member) → Alike f → ((m : Member) → P m → Q m) →
     ((m : Member) → m.number ≡ n → P m → Q (f m)) →
     Stands reader P ms → Stands reader Q (changed n f ms)
 stands_changed n reader f P Q [] a keep move h = h
@@ -88,7 +88,7 @@ stands_changed n reader f P Q (m ∷ ms) a keep move (inl h) = elim (bool_cases 
 stands_changed n reader f P Q (m ∷ ms) a keep move (inr h) = inr (stands_changed n reader f P Q ms a keep move h)
 
 -- the sinces of the readers stay where those that are changed keep theirs
-others_same : (n reader : ℕ) (f : Member → Member) → Alike f → ((m : Member) → (f m).since ≡ m.since) → (ms : List Member) →
+pub others_same : (n reader : ℕ) (f : Member → Member) → Alike f → ((m : Member) → (f m).since ≡ m.since) → (ms : List Member) →
     other_sinces reader (changed n f ms) ≡ other_sinces reader ms
 others_same n reader f a since [] = refl
 others_same n reader f a since (m ∷ ms) = elim (bool_cases (eqb m.number n)) [

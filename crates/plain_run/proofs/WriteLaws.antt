@@ -31,7 +31,8 @@ use Rattle.plain_run.specs.Sessions.{ViewAt}
 use Rattle.plain_run.proofs.DriveLaws.{lawful_last, unmoved}
 use Rattle.plain_run.proofs.Quietly.{quiet_view}
 use Rattle.plain_run.proofs.Refused.{scan_append}
-use Rattle.plain_run.proofs.Views.{append_ok, left_keeps}
+use Rattle.plain_run.proofs.SettledLaws.{leave_closes}
+use Rattle.plain_run.proofs.Views.{append_ok}
 use Rattle.plain_run.proofs.SessionLaws.{all_quiet}
 use Rattle.store_core.specs.declared.shards.ShardId.{ShardId}
 
@@ -125,13 +126,9 @@ module _ (shard : ShardId) (client : ℕ) where
           (Leave number) asks.CloseWriter) answer list start es now
 
       go : (answer : WriteAnswer) (list : List Update) (start : Stored) (es now : List Entry) → Between shard list start es now →
-          Wrote answer list start es now →
-          accepted shard list start now ≡ accepted shard list start es
+          Wrote answer list start es now → Closed shard (Ok tt) list start es now
       go (writes.Closed version) list start es now b x =
-          ap (accepted shard list start) x.split
-          ∙ left_keeps shard list start b.stands x.entry x.before
-          (lawful_last shard list start es now x.before x.entry b x.split) number x.effect.effect
-          ∙ (unmoved shard client list start es now x.before x.entry x.calls b x.split x.going).accepts
+          leave_closes shard client list start es now x.before x.entry x.calls b x.going x.split number x.effect.effect
       go writes.Ok list start es now b x = absurd x.legal
       go (writes.Mismatch current) list start es now b x = absurd x.legal
       go (writes.Heavy weight) list start es now b x = absurd x.legal

@@ -1,10 +1,11 @@
 -- What a session answers, over a store that nobody else calls. Entries go newest first.
-use Rattle.std.specs.Prelude.{⊤, ◌≡◌, ◌≢◌, ℕ, Option, None, IsSome, unwrap_or, Result, Ok, Err, List}
+use Rattle.std.specs.Prelude.{⊤, ◌≡◌, ◌≢◌, ℕ, ◌<◌, true, Option, None, IsSome, unwrap_or, Result, Ok, Err, List}
 use Rattle.update_core.specs.declared.updates.Update.{Update}
 use Rattle.store_core.specs.declared.shards.ShardId.{ShardId}
 use Rattle.store_core.specs.declared.entries.Entry.{Entry}
 use Rattle.store_core.specs.Stores.{Stored}
 use Rattle.store_core.specs.Histories.{History}
+use Rattle.store_core.specs.Newest.{replay_back}
 use Rattle.history_core.specs.declared.write_answers.WriteAnswer.{WriteAnswer}
 use Rattle.history_core.specs.declared.write_answers.WriteAnswer.TheVariants as writes
 use Rattle.history_core.specs.declared.read_answers.ReadAnswer.{ReadAnswer}
@@ -28,12 +29,15 @@ use Rattle.plain_run.specs.declared.run_faults.RunFault.{RunFault}
 use Rattle.plain_run.specs.declared.run_faults.RunFault.TheVariants as runs
 use Rattle.plain_run.specs.Drives.{Failed, ScannedFull, ScannedSpent}
 use Rattle.plain_run.specs.Endings.{AnswersFeed}
-use Rattle.plain_run.specs.PlainRuns.{View, plain_end, plain_run}
+use Rattle.plain_run.specs.PlainRuns.{View, plain_end, plain_run, reply_to, view_after}
 use Rattle.plain_run.specs.Sessions.{StartsAt, ViewAt}
+use Rattle.plain_run.specs.Settling.{IsSettledIn, SettledBy, StaysSettled, ends_compact}
 
--- the writer and the reader of a run are two clients
-abbrev pub AreApart : Place → Type 0
-AreApart place = place.writer ≢ place.reader
+-- the writer and the reader of a run are two clients, below all that its lines make
+pub record AreApart (place : Place) : Type 0 where
+  pub apart : place.writer ≢ place.reader
+  pub writer : place.writer < place.others
+  pub reader : place.reader < place.others
 
 -- a writer that has joined, between commands
 pub record WriterReady (here : ShardId) (client : ℕ) (front : Option History) (w : Writer) : Type 0 where
@@ -53,7 +57,9 @@ pub record ReaderReady (here : ShardId) (client : ℕ) (front : Option History) 
 
 -- a session between commands
 pub record Ready (front : Option History) (s : Session) : Type 0 where
-  pub apart : AreApart s.place
+  pub apart : s.place.writer ≢ s.place.reader
+  pub above_writer : s.place.writer < s.next
+  pub above_reader : s.place.reader < s.next
   pub writer : WriterReady s.place.shard s.place.writer front s.writer
   pub reader : ReaderReady s.place.shard s.place.reader front s.reader
 
@@ -94,6 +100,11 @@ reader_let_in (reads.Opened member version since) = Ok tt
 reader_let_in (reads.MembersFull version) = Err faults.MembersFull
 reader_let_in _ = Err faults.Damaged
 
+-- whether a reader's lease was renewed
+abbrev pub renewed : ReadAnswer → Result Unit SessionFault
+renewed (reads.Renewed version) = Ok tt
+renewed _ = Err faults.Damaged
+
 -- ---- what has become of the view
 
 -- the writer has joined, and the view from which a run starts is as it was
@@ -118,9 +129,30 @@ Replies shard reader wanted after (Ok reply) list start es now =
 Replies shard reader wanted after (Err faults.Damaged) list start es now = (view : View) → ViewAt shard list start es reader view → ⊥
 Replies shard reader wanted after (Err fault) list start es now = Failed shard fault start es now
 
--- what is accepted stays
+-- the same of a line; after `compact` the batches are settled
+abbrev pub AnswersLine : ShardId → ℕ → FeedLine → Result RunReply SessionFault → List Update → Stored → List Entry → List Entry → Type 0
+AnswersLine shard reader line (Ok reply) list start es now =
+    (view : View) → ViewAt shard list start es reader view →
+    (reply ≡ reply_to view line) × ViewAt shard list start now reader (view_after view line) × SettledBy line shard (replay_back start now)
+AnswersLine shard reader line (Err faults.Damaged) list start es now = (view : View) → ViewAt shard list start es reader view → ⊥
+AnswersLine shard reader line (Err fault) list start es now = Failed shard fault start es now
+
+-- where the run had a view it has it still, and this holds of the stores before and now
+abbrev pub TendsTo : ShardId → ℕ → (Stored → Stored → Type 0) → Result Unit SessionFault → List Update → Stored → List Entry → List Entry → Type 0
+TendsTo shard reader how (Ok done) list start es now =
+    (view : View) → ViewAt shard list start es reader view →
+    ViewAt shard list start now reader view × how (replay_back start es) (replay_back start now)
+TendsTo shard reader how (Err faults.Damaged) list start es now = (view : View) → ViewAt shard list start es reader view → ⊥
+TendsTo shard reader how (Err fault) list start es now = Failed shard fault start es now
+
+-- the same where batches that were settled are so still
+abbrev pub Tends : ShardId → ℕ → Result Unit SessionFault → List Update → Stored → List Entry → List Entry → Type 0
+Tends shard reader result list start es now = TendsTo shard reader (StaysSettled shard) result list start es now
+
+-- what is accepted stays, and so do settled batches
 abbrev pub Closed : ShardId → Result Unit SessionFault → List Update → Stored → List Entry → List Entry → Type 0
-Closed shard (Ok done) list start es now = accepted shard list start now ≡ accepted shard list start es
+Closed shard (Ok done) list start es now =
+    (accepted shard list start now ≡ accepted shard list start es) × StaysSettled shard (replay_back start es) (replay_back start now)
 Closed shard (Err fault) list start es now = Failed shard fault start es now
 
 -- what has become of a run by a fault
@@ -130,11 +162,13 @@ FailedRun shard runs.MembersFull start es now = ScannedFull shard start es now
 FailedRun shard runs.Spent start es now = ScannedSpent shard start es now
 FailedRun shard _ start es now = ⊤
 
--- The replies from the run's view are written, and the run has the view after them.
+-- The replies from the run's view are written, and the run has the view after them. Where the last line is `compact` the batches are
+-- settled.
 abbrev pub AnswersLines : ShardId → ℕ → List FeedLine → Option (List ℕ) → Option (List ℕ) → Result Unit RunFault → List Update → Stored → List Entry → List Entry → Type 0
 AnswersLines shard reader lines taken taken_now (Ok done) list start es now =
     (view : View) → ViewAt shard list start es reader view →
-    Gains taken taken_now (plain_run view lines) × ViewAt shard list start now reader (plain_end view lines)
+    Gains taken taken_now (plain_run view lines) × ViewAt shard list start now reader (plain_end view lines) ×
+    (ends_compact lines ≡ true → IsSettledIn (replay_back start now) shard)
 AnswersLines shard reader lines taken taken_now (Err runs.Damaged) list start es now = (view : View) → ViewAt shard list start es reader view → ⊥
 AnswersLines shard reader lines taken taken_now (Err fault) list start es now = FailedRun shard fault start es now
 

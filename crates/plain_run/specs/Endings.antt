@@ -1,5 +1,5 @@
 -- How a run ends, before its last line is written.
-use Rattle.std.specs.Prelude.{◌≡◌, ◌⊎◌, ◌≤◌, ⊤, ℕ, Option, List, [], ◌∷◌, codes}
+use Rattle.std.specs.Prelude.{◌≡◌, ◌⊎◌, ◌≤◌, ⊤, ℕ, true, Option, List, [], ◌∷◌, codes}
 use Rattle.causes.specs.Causes.{Rose}
 use Rattle.feed_text.specs.declared.feed_lines.FeedLine.{FeedLine}
 use Rattle.feed_text.specs.Grammar.{Spells, IsFirstFault}
@@ -17,13 +17,15 @@ use Rattle.plain_run.specs.Drives.{ScannedFull, ScannedSpent}
 use Rattle.driving.specs.Goings.{Goes}
 use Rattle.plain_run.specs.PlainRuns.{View, plain_end, plain_run}
 use Rattle.plain_run.specs.Sessions.{StartsAt}
+use Rattle.plain_run.specs.Settling.{IsSettledIn, ends_compact}
 
 -- From the view of the store at the start the sink has gained the plain run of a feed, and the store stands for what the plain run
--- ends with.
+-- ends with. Where the feed's last command is `compact`, no pair of the last version's batches is due.
 abbrev pub AnswersFeed : ShardId → List FeedLine → Option (List ℕ) → Option (List ℕ) → List Update → Stored → List Entry → List Entry → Type 0
 AnswersFeed shard feed taken taken_now list start es now =
     (view : View) → StartsAt shard list start es view →
-    Gains taken taken_now (plain_run view feed) × StandsFor (replay_back start now) shard (plain_end view feed).collection.updates
+    Gains taken taken_now (plain_run view feed) × StandsFor (replay_back start now) shard (plain_end view feed).collection.updates ×
+    (ends_compact feed ≡ true → IsSettledIn (replay_back start now) shard)
 
 -- the history isn't told, or isn't lawful, or its start stands for no list
 abbrev pub NoCollection : ShardId → Option History → Option History → Type 0

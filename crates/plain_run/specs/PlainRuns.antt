@@ -7,7 +7,7 @@ use Rattle.update_core.specs.Collections.{Collection, empty_collection, AppendAn
 use Rattle.update_core.specs.Frontiers.{after, covers}
 use Rattle.update_core.specs.Updates.{weight_of}
 use Rattle.feed_text.specs.declared.feed_lines.FeedLine.{FeedLine}
-use Rattle.feed_text.specs.declared.feed_lines.FeedLine.TheVariants.{Append, Snapshot, Listen, Since}
+use Rattle.feed_text.specs.declared.feed_lines.FeedLine.TheVariants.{Append, Snapshot, Listen, Since, Compact}
 use Rattle.feed_text.specs.declared.replies.RunReply.{RunReply}
 use Rattle.feed_text.specs.declared.replies.RunReply.TheVariants as replies
 use Rattle.feed_text.specs.Replies.{reply_text}
@@ -90,12 +90,14 @@ reply_to view (Append a) = append_reply view.collection a
 reply_to view (Snapshot t) = snapshot_text (snapshot_answer view.collection t)
 reply_to view (Listen t) = listen_text (listen_answer view.collection (after t))
 reply_to view (Since to) = since_reply view.own to
+reply_to view Compact = replies.Accepted
 
 abbrev pub view_after : View → FeedLine → View
 view_after view (Append a) = view_with view (collection_after view.collection a)
 view_after view (Snapshot t) = view
 view_after view (Listen t) = view
 view_after view (Since to) = view_since view to
+view_after view Compact = view
 
 -- the replies to the commands in turn
 abbrev pub plain_replies : View → List FeedLine → List RunReply

@@ -1,4 +1,4 @@
-// The commands of a run's writer and reader polled to their ends.
+// The commands of a run's clients polled to their ends.
 ghost use Rattle.std.specs.Prelude.{◌≡◌, ◌≤◌, Err, IfOk, OnOk};
 ghost use Rattle.load_core.specs.Fronts.{Backwards, WhereLawful};
 ghost use Rattle.write_client.specs.Machining as write_machine;
@@ -9,6 +9,12 @@ ghost use Rattle.read_client.specs.Machining as read_machine;
 ghost use Rattle.read_client.specs.Following as reads;
 ghost use Rattle.read_client.specs.Polling as reading;
 ghost use Rattle.read_client.specs.Reading as readers;
+ghost use Rattle.machine_core.specs.Polling.{FollowsWhere};
+ghost use Rattle.maint_client.specs.Collecting as collecting;
+ghost use Rattle.merge_client.specs.Machining as merge_machine;
+ghost use Rattle.merge_client.specs.Following as merges;
+ghost use Rattle.merge_client.specs.Polling as merging;
+ghost use Rattle.merge_client.specs.Merging as mergers;
 ghost use Rattle.driving.specs.StoreTurns.{StoreFailed};
 ghost use Rattle.driving.specs.Goings.{Goes, GrowsBy};
 ghost use Rattle.plain_run.specs.Drives.{Driven};
@@ -16,10 +22,12 @@ ghost use Rattle.plain_run.specs.Drives.{Driven};
 use crate::places::Place;
 use crate::session_faults::SessionFault;
 use driving::{SolePort, drive};
-use history_core::{ReadAnswer, WriteAnswer};
+use history_core::{CollectAnswer, MergeAnswer, ReadAnswer, WriteAnswer};
+use maint_client::Collector;
+use merge_client::Compactor;
 use read_client::Reader;
 use std::alloc::Global;
-use store_core::Store;
+use store_core::{ShardId, Store};
 use write_client::Writer;
 
 /// Polls the open command of the writer to its end.
@@ -73,5 +81,56 @@ pub(crate) fn drive_reader<S: Store>(
 {
     port.client = place.reader;
     let answer = drive(alloc, reader, port)?;
+    Ok(answer)
+}
+
+/// Polls the open collection of a collector to its end.
+pub(crate) fn drive_collector<S: Store>(
+    alloc: Global,
+    collector: &mut Collector,
+    port: &mut SolePort<S>,
+    client: u64,
+) -> Result<CollectAnswer, SessionFault>
+    requires open { collecting.IsOpen collector.old }
+    requires sound { collecting.IsSound collector.old }
+    requires begun { collector.old.calls ≡ 0 }
+    requires follows { FollowsWhere collecting.collecting client (S.history port.old.store) collector.old }
+    requires cost { WhereLawful collector.old.shard (S.history port.old.store) (Backwards (collecting.collecting.CostAt 2 client collector.old)) }
+    ensures told { Goes collector.old.shard (S.history port.old.store) (S.history port.new.store)
+        (Driven collector.old.shard collecting.collecting client (collecting.kept collector.old) result) }
+    ensures by { OnOk result (GrowsBy client (S.history port.old.store) (S.history port.new.store)) }
+    ensures failed { result ≡ Err SessionFault.Store → StoreFailed (S.history port.new.store) (S.faults port.old.store) (S.faults port.new.store) }
+    ensures later { S.faults port.old.store ≤ S.faults port.new.store }
+{
+    port.client = client;
+    let answer = drive(alloc, collector, port)?;
+    Ok(answer)
+}
+
+/// Polls the open command of a compactor to its end.
+pub(crate) fn drive_compactor<S: Store>(
+    alloc: Global,
+    compactor: &mut Compactor,
+    port: &mut SolePort<S>,
+    shard: ShardId,
+    client: u64,
+) -> Result<MergeAnswer, SessionFault>
+    requires open { mergers.IsOpen compactor.old }
+    requires sound { mergers.IsSound compactor.old }
+    requires shard { mergers.shard_of compactor.old ≡ shard }
+    requires begun { compactor.old.storing.trying.calls ≡ 0 }
+    requires follows { merges.FollowsWhere client (S.history port.old.store) compactor.old }
+    requires cost { WhereLawful (mergers.shard_of compactor.old) (S.history port.old.store) (Backwards (merging.CostAt 3 client compactor.old)) }
+    ensures told { Goes shard (S.history port.old.store) (S.history port.new.store)
+        (Driven shard merge_machine.machine client (merge_machine.kept compactor.old) result) }
+    ensures by { OnOk result (GrowsBy client (S.history port.old.store) (S.history port.new.store)) }
+    ensures ended { IfOk result (λ answer. merge_machine.Ended (merge_machine.kept compactor.old) answer compactor.new) }
+    ensures sound { mergers.IsSound compactor.new }
+    ensures follows { OnOk result (merges.FollowsWhere client (S.history port.new.store) compactor.new) }
+    ensures failed { result ≡ Err SessionFault.Store → StoreFailed (S.history port.new.store) (S.faults port.old.store) (S.faults port.new.store) }
+    ensures later { S.faults port.old.store ≤ S.faults port.new.store }
+{
+    port.client = client;
+    let answer = drive(alloc, compactor, port)?;
     Ok(answer)
 }

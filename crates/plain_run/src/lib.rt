@@ -2,6 +2,7 @@
 #![tactic(auto)]
 
 mod collections;
+mod compacting;
 mod drives;
 mod endings;
 mod places;

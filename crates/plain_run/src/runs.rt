@@ -6,10 +6,9 @@ ghost use Rattle.feed_text.specs.declared.limits.TheConstants.{MAX_BYTES};
 ghost use Rattle.feed_text.specs.Grammar.{IsCommand, IsFeed};
 ghost use Rattle.causes.specs.Causes.{Rose};
 ghost use Rattle.feed_text.specs.Streams.{ReadsUpTo};
-ghost use Rattle.plain_run.specs.PlainRuns.{reply_to, view_after};
 ghost use Rattle.driving.specs.StoreTurns.{StoreFailed};
 ghost use Rattle.driving.specs.Goings.{Goes};
-ghost use Rattle.plain_run.specs.Answering.{AnswersLines, AreApart, Executes, Ready, Replies, number_of};
+ghost use Rattle.plain_run.specs.Answering.{AnswersLine, AnswersLines, AreApart, Executes, Ready, number_of};
 ghost use Rattle.plain_run.specs.Endings.{AnswersText, EndsRun, Spares, StaysLawful};
 
 use crate::endings::Ending;
@@ -36,7 +35,7 @@ fn answer<S: Store>(
     requires ready { Ready (S.history port.old.store) session.old }
     requires token { session.old.writer.token < most }
     requires command { IsCommand line }
-    ensures told { Goes session.old.place.shard (S.history port.old.store) (S.history port.new.store) (Replies session.old.place.shard (number_of session.old.reader) (λ view. reply_to view line) (λ view. view_after view line) result) }
+    ensures told { Goes session.old.place.shard (S.history port.old.store) (S.history port.new.store) (AnswersLine session.old.place.shard (number_of session.old.reader) line result) }
     ensures ready { OnOk result (Ready (S.history port.new.store) session.new) }
     ensures place { OnOk result (session.new.place ≡ session.old.place) }
     ensures member { OnOk result (session.new.reader.member ≡ session.old.reader.member) }
@@ -49,6 +48,7 @@ fn answer<S: Store>(
         FeedLine::Snapshot { t } => session.snapshot(alloc, port, t),
         FeedLine::Listen { t } => session.listen(alloc, port, t),
         FeedLine::Since { to } => session.advance(alloc, port, to),
+        FeedLine::Compact => session.compact(alloc, port),
     }
 }
 

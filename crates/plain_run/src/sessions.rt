@@ -23,15 +23,18 @@ use store_core::Store;
 use update_core::FeedAppend;
 use write_client::Writer;
 
-/// How long a reader is kept what it reads, from the moment that the clock told.
-const LEASE: u64 = 1_000_000;
+/// How long a member with a lease is kept what it reads, from the moment that the clock told.
+pub(crate) const LEASE: u64 = 1_000_000;
 
-/// The writer and the reader of a run, and where it takes place.
+/// The writer and the reader of a run, where it takes place, the moment that the clock told, and the number of the next client that
+/// a line makes.
 #[derive(Drop)]
 pub(crate) struct Session {
     pub place: Place,
     pub writer: Writer,
     pub reader: Reader,
+    pub now: u64,
+    pub next: u64,
 }
 
 // The reply that a writer's answer to an append is.
@@ -147,6 +150,8 @@ impl Session {
             place,
             writer,
             reader,
+            now,
+            next: place.others,
         })
     }
 

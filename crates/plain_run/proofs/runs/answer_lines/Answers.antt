@@ -8,10 +8,9 @@ use Rattle.feed_text.specs.Grammar.{IsCommand}
 use Rattle.feed_text.specs.Replies.{reply_text}
 use Rattle.plain_run.specs.declared.run_faults.RunFault.{RunFault}
 use Rattle.plain_run.specs.declared.run_faults.RunFault.TheVariants as runs
-use Rattle.plain_run.specs.Answering.{AnswersLines, Replies, number_of}
+use Rattle.plain_run.specs.Answering.{AnswersLine, AnswersLines, number_of}
 use Rattle.plain_run.specs.declared.places.Place.{Place}
 use Rattle.driving.specs.Goings.{Goes}
-use Rattle.plain_run.specs.PlainRuns.{reply_to, view_after}
 use Rattle.plain_run.proofs.RunLaws.{run_over_ends, run_over_fails, run_over_goes_on, run_over_starts, run_over_stops}
 use Rattle.plain_run.proofs.runs.answer_lines.Goals as goal
 
@@ -41,9 +40,8 @@ returns-in_err-reply-clause-told g c =
     let n = number_of c.args.session.now.reader in
     let all_is : c.from-lines.result.items ≡ c.args.lines = cc in
     let number : number_of c.loop-line.session.reader ≡ n = ap (λ (m : Option ℕ). unwrap_or m 0) c.loop-line.invariant.member in
-    let told = subst (λ (m : ℕ). Goes c.args.session.now.place.shard b d (Replies c.args.session.now.place.shard m (λ view. reply_to view c.in-Some.line) (λ view. view_after view c.in-Some.line) (Err c.in_err-reply.field-0.0))) number
-    (subst (λ (q : Place). Goes q.shard b d (Replies q.shard (number_of c.loop-line.session.reader)
-    (λ view. reply_to view c.in-Some.line) (λ view. view_after view c.in-Some.line) (Err c.in_err-reply.field-0.0)))
+    let told = subst (λ (m : ℕ). Goes c.args.session.now.place.shard b d (AnswersLine c.args.session.now.place.shard m c.in-Some.line (Err c.in_err-reply.field-0.0))) number
+    (subst (λ (q : Place). Goes q.shard b d (AnswersLine q.shard (number_of c.loop-line.session.reader) c.in-Some.line (Err c.in_err-reply.field-0.0)))
     c.loop-line.invariant.place c.in_err-reply.ensures.told) in
     let went = run_over_fails c.args.session.now.place.shard n a b d (taken c.args.out.now) (taken c.loop-line.out) (taken c.loop-line.out) c.from-lines.result.items c.loop-line.lines.items c.in-Some.line c.in_err-reply.field-0.0 c.loop-line.invariant.over told in
     let p = err_from_is_err_and c.from_residual.result c.from_residual.ensures.1 in
@@ -59,10 +57,9 @@ returns-in_err-print_reply-clause-told g c =
     let d = history c.answer.new.port.store in
     let n = number_of c.args.session.now.reader in
     let all_is : c.from-lines.result.items ≡ c.args.lines = cc in
-    let went = run_over_stops c.args.session.now.place.shard n a b d (taken c.args.out.now) (taken c.loop-line.out) (taken c.loop-line.out) c.from-lines.result.items c.loop-line.lines.items (Replies c.args.session.now.place.shard (number_of c.loop-line.session.reader) (λ view. reply_to view c.in-Some.line) (λ view. view_after view c.in-Some.line) (Ok c.in_ok-reply.reply)) runs.Memory
+    let went = run_over_stops c.args.session.now.place.shard n a b d (taken c.args.out.now) (taken c.loop-line.out) (taken c.loop-line.out) c.from-lines.result.items c.loop-line.lines.items (AnswersLine c.args.session.now.place.shard (number_of c.loop-line.session.reader) c.in-Some.line (Ok c.in_ok-reply.reply)) runs.Memory
     (λ list start es fs. tt) c.loop-line.invariant.over
-    (subst (λ (q : Place). Goes q.shard b d (Replies q.shard (number_of c.loop-line.session.reader)
-    (λ view. reply_to view c.in-Some.line) (λ view. view_after view c.in-Some.line) (Ok c.in_ok-reply.reply)))
+    (subst (λ (q : Place). Goes q.shard b d (AnswersLine q.shard (number_of c.loop-line.session.reader) c.in-Some.line (Ok c.in_ok-reply.reply)))
     c.loop-line.invariant.place c.in_ok-reply.ensures.told) in
     let p = err_from_is_err_and c.from_residual-in_err-print_reply.result c.from_residual-in_err-print_reply.ensures.1 in
     rw p.1 (subst (λ (e : RunFault). Goes c.args.session.now.place.shard a d (AnswersLines c.args.session.now.place.shard n c.args.lines (taken c.args.out.now) (taken c.loop-line.out) (Err e))) (sym p.2)
@@ -77,10 +74,9 @@ returns-in_err-put_all-clause-told g c =
     let d = history c.answer.new.port.store in
     let n = number_of c.args.session.now.reader in
     let all_is : c.from-lines.result.items ≡ c.args.lines = cc in
-    let went = run_over_stops c.args.session.now.place.shard n a b d (taken c.args.out.now) (taken c.loop-line.out) (taken c.put_all.new.sink) c.from-lines.result.items c.loop-line.lines.items (Replies c.args.session.now.place.shard (number_of c.loop-line.session.reader) (λ view. reply_to view c.in-Some.line) (λ view. view_after view c.in-Some.line) (Ok c.in_ok-reply.reply)) runs.Sink
+    let went = run_over_stops c.args.session.now.place.shard n a b d (taken c.args.out.now) (taken c.loop-line.out) (taken c.put_all.new.sink) c.from-lines.result.items c.loop-line.lines.items (AnswersLine c.args.session.now.place.shard (number_of c.loop-line.session.reader) c.in-Some.line (Ok c.in_ok-reply.reply)) runs.Sink
     (λ list start es fs. tt) c.loop-line.invariant.over
-    (subst (λ (q : Place). Goes q.shard b d (Replies q.shard (number_of c.loop-line.session.reader)
-    (λ view. reply_to view c.in-Some.line) (λ view. view_after view c.in-Some.line) (Ok c.in_ok-reply.reply)))
+    (subst (λ (q : Place). Goes q.shard b d (AnswersLine q.shard (number_of c.loop-line.session.reader) c.in-Some.line (Ok c.in_ok-reply.reply)))
     c.loop-line.invariant.place c.in_ok-reply.ensures.told) in
     let p = err_from_is_err_and c.from_residual-in_err-put_all.result c.from_residual-in_err-put_all.ensures.1 in
     rw p.1 (subst (λ (e : RunFault). Goes c.args.session.now.place.shard a d (AnswersLines c.args.session.now.place.shard n c.args.lines (taken c.args.out.now) (taken c.put_all.new.sink) (Err e))) (sym p.2)
@@ -108,9 +104,8 @@ loop-line-preserved-in_ok-put_all g c =
     let d = history c.answer.new.port.store in
     let n = number_of c.args.session.now.reader in
     let number : number_of c.loop-line.session.reader ≡ n = ap (λ (m : Option ℕ). unwrap_or m 0) c.loop-line.invariant.member in
-    let told = subst (λ (m : ℕ). Goes c.args.session.now.place.shard b d (Replies c.args.session.now.place.shard m (λ view. reply_to view c.in-Some.line) (λ view. view_after view c.in-Some.line) (Ok reply))) number
-    (subst (λ (q : Place). Goes q.shard b d (Replies q.shard (number_of c.loop-line.session.reader)
-    (λ view. reply_to view c.in-Some.line) (λ view. view_after view c.in-Some.line) (Ok reply)))
+    let told = subst (λ (m : ℕ). Goes c.args.session.now.place.shard b d (AnswersLine c.args.session.now.place.shard m c.in-Some.line (Ok reply))) number
+    (subst (λ (q : Place). Goes q.shard b d (AnswersLine q.shard (number_of c.loop-line.session.reader) c.in-Some.line (Ok reply)))
     c.loop-line.invariant.place c.in_ok-reply.ensures.told) in
     let text_is : c.deref.result.now ≡ reply_text reply = c.deref.ensures.value ∙ c.in_ok-print_reply.ensures.ok ∙ ap (λ t. t ++ reply_text reply) c.clear.ensures.items in
     let split = c.in-Some.ensures.items in
@@ -139,9 +134,8 @@ loop-line-preserved-in_ok-put_all-2 g c =
     let d = history c.answer.new.port.store in
     let n = number_of c.args.session.now.reader in
     let number : number_of c.loop-line.session.reader ≡ n = ap (λ (m : Option ℕ). unwrap_or m 0) c.loop-line.invariant.member in
-    let told = subst (λ (m : ℕ). Goes c.args.session.now.place.shard b d (Replies c.args.session.now.place.shard m (λ view. reply_to view c.in-Some.line) (λ view. view_after view c.in-Some.line) (Ok reply))) number
-    (subst (λ (q : Place). Goes q.shard b d (Replies q.shard (number_of c.loop-line.session.reader)
-    (λ view. reply_to view c.in-Some.line) (λ view. view_after view c.in-Some.line) (Ok reply)))
+    let told = subst (λ (m : ℕ). Goes c.args.session.now.place.shard b d (AnswersLine c.args.session.now.place.shard m c.in-Some.line (Ok reply))) number
+    (subst (λ (q : Place). Goes q.shard b d (AnswersLine q.shard (number_of c.loop-line.session.reader) c.in-Some.line (Ok reply)))
     c.loop-line.invariant.place c.in_ok-reply.ensures.told) in
     let text_is : c.deref.result.now ≡ reply_text reply = c.deref.ensures.value ∙ c.in_ok-print_reply.ensures.ok ∙ ap (λ t. t ++ reply_text reply) c.clear.ensures.items in
     let split = c.in-Some.ensures.items in
@@ -170,9 +164,8 @@ loop-line-preserved g c =
     let d = history c.answer.new.port.store in
     let n = number_of c.args.session.now.reader in
     let number : number_of c.loop-line.session.reader ≡ n = ap (λ (m : Option ℕ). unwrap_or m 0) c.loop-line.invariant.member in
-    let told = subst (λ (m : ℕ). Goes c.args.session.now.place.shard b d (Replies c.args.session.now.place.shard m (λ view. reply_to view c.in-Some.line) (λ view. view_after view c.in-Some.line) (Ok reply))) number
-    (subst (λ (q : Place). Goes q.shard b d (Replies q.shard (number_of c.loop-line.session.reader)
-    (λ view. reply_to view c.in-Some.line) (λ view. view_after view c.in-Some.line) (Ok reply)))
+    let told = subst (λ (m : ℕ). Goes c.args.session.now.place.shard b d (AnswersLine c.args.session.now.place.shard m c.in-Some.line (Ok reply))) number
+    (subst (λ (q : Place). Goes q.shard b d (AnswersLine q.shard (number_of c.loop-line.session.reader) c.in-Some.line (Ok reply)))
     c.loop-line.invariant.place c.in_ok-reply.ensures.told) in
     let text_is : c.deref.result.now ≡ reply_text reply = c.deref.ensures.value ∙ c.in_ok-print_reply.ensures.ok ∙ ap (λ t. t ++ reply_text reply) c.clear.ensures.items in
     let split = c.in-Some.ensures.items in

@@ -1,4 +1,4 @@
-use Rattle.std.proofs.Common.{◌≡◌, ◌≤◌, Ok, Err, ap, subst, sym, ◌∙◌, arith}
+use Rattle.std.proofs.Common.{◌≡◌, ◌≤◌, true, Ok, Err, ap, subst, sym, ◌∙◌, arith}
 use Rattle.std.proofs.lemmas.Result.{err_from_is_err_and}
 use Rattle.causes.specs.Causes.{Rose}
 use Rattle.plain_run.specs.declared.places.Place.{Place}
@@ -10,6 +10,8 @@ use Rattle.driving.specs.Goings.{Goes}
 use Rattle.plain_run.specs.PlainRuns.{View, plain_end, plain_run}
 use Rattle.plain_run.specs.RunFaults.{fault_of}
 use Rattle.plain_run.specs.Sessions.{StartsAt, ViewAt}
+use Rattle.plain_run.specs.Settling.{IsSettledIn, ends_compact}
+use Rattle.store_core.specs.Newest.{replay_back}
 use Rattle.feed_text.specs.Streams.{Gains}
 use Rattle.plain_run.proofs.RunLaws.{close_fails, err_same, lines_done, lines_fail, open_fails, run_done, store_fault}
 use Rattle.plain_run.proofs.runs.execute.Goals as goal
@@ -50,7 +52,7 @@ returns-in_err-close-clause-told g c =
     c.in_ok-session.ensures.place c.in_ok-answer_lines.ensures.told) in
     let p = err_from_is_err_and c.from_residual-in_err-close.result c.from_residual-in_err-close.ensures.1 in
     rw p.1 (subst (λ (x : RunFault). Goes c.args.place.shard a e (Executes c.args.place.shard all (taken c.args.out.now) now (Err x))) (sym p.2)
-    (close_fails c.args.place.shard a d e (λ list start es fs. (view : View) → StartsAt c.args.place.shard list start es view → Gains (taken c.args.out.now) now (plain_run view all) × ViewAt c.args.place.shard list start fs (number_of s.reader) (plain_end view all))
+    (close_fails c.args.place.shard a d e (λ list start es fs. (view : View) → StartsAt c.args.place.shard list start es view → Gains (taken c.args.out.now) now (plain_run view all) × ViewAt c.args.place.shard list start fs (number_of s.reader) (plain_end view all) × (ends_compact all ≡ true → IsSettledIn (replay_back start fs) c.args.place.shard))
     all (taken c.args.out.now) now c.in_err-close.field-0.0 done
     (subst (λ (q : Place). Goes q.shard d e (λ list start es fs. Failed q.shard c.in_err-close.field-0.0 start es fs))
     (c.in_ok-answer_lines.ensures.place ∙ c.in_ok-session.ensures.place) c.in_err-close.ensures.told)))

@@ -43,5 +43,5 @@ returns-clause-ready g c =
     let d = g.S.Store.history c.drive_writer.new.port.store in
     let x = c.args.append in
     let begun = append_begun c.args.self.now.place a c.args.self.now.writer c.begin_append.new.self x.rows x.lower x.upper c.requires.ready.writer c.in_ok-begin_append.ensures.begins.1 in
-    on_reply c.reply_written.result (Ready d (record { place = c.args.self.now.place; writer = c.drive_writer.new.writer; reader = c.args.self.now.reader })) (λ r is.
-    ready_written c.args.self.now.place a d c.args.self.now.writer c.begin_append.new.self c.drive_writer.new.writer c.args.self.now.reader x.rows x.lower x.upper c.in_ok-answer.answer r c.requires.ready begun c.in_ok-answer.ensures.by c.in_ok-answer.ensures.ended c.drive_writer.ensures.sound c.in_ok-answer.ensures.follows (sym c.reply_written.ensures ∙ is))
+    on_reply c.reply_written.result (Ready d (record { place = c.args.self.now.place; writer = c.drive_writer.new.writer; reader = c.args.self.now.reader; now = c.args.self.now.now; next = c.args.self.now.next })) (λ r is.
+    ready_written c.args.self.now.place c.args.self.now.now c.args.self.now.next a d c.args.self.now.writer c.begin_append.new.self c.drive_writer.new.writer c.args.self.now.reader x.rows x.lower x.upper c.in_ok-answer.answer r c.requires.ready begun c.in_ok-answer.ensures.by c.in_ok-answer.ensures.ended c.drive_writer.ensures.sound c.in_ok-answer.ensures.follows (sym c.reply_written.ensures ∙ is))

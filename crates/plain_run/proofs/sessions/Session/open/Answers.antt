@@ -27,10 +27,10 @@ returns-in_err-reader-clause-told g c =
 
 pub returns-clause-told : goal.returns-clause-told
 returns-clause-told g c =
-    opens_both c.args.place (g.S.Store.history c.args.port.now.store) (g.S.Store.history c.open_writer.new.port.store)
+    opens_both c.args.place c.args.now (g.S.Store.history c.args.port.now.store) (g.S.Store.history c.open_writer.new.port.store)
     (g.S.Store.history c.open_reader.new.port.store) c.in_ok-writer.writer c.in_ok-reader.reader c.in_ok-writer.ensures.told c.in_ok-reader.ensures.told
 
 pub returns-clause-ready : goal.returns-clause-ready
 returns-clause-ready g c =
-    ready_both c.args.place c.requires.apart (g.S.Store.history c.open_writer.new.port.store)
+    ready_both c.args.place c.args.now c.requires.apart (g.S.Store.history c.open_writer.new.port.store)
     (g.S.Store.history c.open_reader.new.port.store) c.in_ok-writer.writer c.in_ok-reader.reader c.in_ok-reader.ensures.by c.in_ok-writer.ensures.ready c.in_ok-reader.ensures.ready

@@ -39,5 +39,5 @@ returns-clause-ready g c =
     let d = g.S.Store.history c.drive_reader.new.port.store in
     let begun = read_begun c.args.self.now.place a c.args.self.now.reader c.begin_snapshot.new.self
     (asks.Snapshot c.args.t) c.args.self.now.reader.listen c.requires.ready.reader c.in_ok-begin_snapshot.ensures.begins.1 in
-    on_reply c.reply_read.result (Ready d (record { place = c.args.self.now.place; writer = c.args.self.now.writer; reader = c.drive_reader.new.reader })) (λ r is.
-    ready_read c.args.self.now.place a d c.args.self.now.writer c.args.self.now.reader c.begin_snapshot.new.self c.drive_reader.new.reader c.args.self.now.reader.listen (asks.Snapshot c.args.t) c.in_ok-answer.answer r c.requires.ready begun c.in_ok-answer.ensures.by c.in_ok-answer.ensures.ended c.drive_reader.ensures.sound c.in_ok-answer.ensures.follows (sym c.reply_read.ensures ∙ is))
+    on_reply c.reply_read.result (Ready d (record { place = c.args.self.now.place; writer = c.args.self.now.writer; reader = c.drive_reader.new.reader; now = c.args.self.now.now; next = c.args.self.now.next })) (λ r is.
+    ready_read c.args.self.now.place c.args.self.now.now c.args.self.now.next a d c.args.self.now.writer c.args.self.now.reader c.begin_snapshot.new.self c.drive_reader.new.reader c.args.self.now.reader.listen (asks.Snapshot c.args.t) c.in_ok-answer.answer r c.requires.ready begun c.in_ok-answer.ensures.by c.in_ok-answer.ensures.ended c.drive_reader.ensures.sound c.in_ok-answer.ensures.follows (sym c.reply_read.ensures ∙ is))
