@@ -13,6 +13,7 @@ use Rattle.load_core.specs.declared.polls.Poll.{Poll}
 use Rattle.load_core.specs.declared.polls.Poll.TheVariants as polls
 use Rattle.machine_core.specs.Machines.{Words, shard_of}
 use Rattle.step_run.specs.declared.step_faults.StepFault.{StepFault}
+use Rattle.step_run.specs.declared.step_faults.StepFault.TheVariants as faults
 use Rattle.step_run.specs.declared.stepping.Stepped.{Stepped}
 use Rattle.step_run.specs.Faults.{FailedBy}
 
