@@ -1,3 +1,4 @@
+pub mod StopTexts
 pub mod Walks
 pub mod Soundness
 pub mod Completeness

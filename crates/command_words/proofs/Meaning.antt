@@ -1,15 +1,15 @@
 -- Words mean one command at most, and clap finds it.
-use Rattle.std.proofs.Common.{◌≡◌, ◌∙◌, ◌<◌, ◌^◌, ◌&&◌, ◌==◌, ℕ, Bool, cond, codes, true, false, not}
+use Rattle.std.proofs.Common.{◌≡◌, ◌∙◌, ◌+◌, ◌<◌, ◌^◌, ◌&&◌, ◌==◌, ℕ, Bool, cond, codes, true, false, not}
 use Rattle.std.proofs.Common.{refl, sym, ap, ap₂, subst, arith, List, [], ◌∷◌, ◌++◌, map, length, find, Option}
 use Rattle.std.proofs.Common.{Some, None, option_map, is_some, true≢false}
 use Rattle.std.specs.Prelude.{decimal, option_and_then, slice_get, unwrap_or, IfNone}
-use Rattle.std.specs.List.{AllByRecursion, list_any}
+use Rattle.std.specs.List.{AllByRecursion, flat_map, list_any}
 use Rattle.std.specs.Str.{bytes_eq}
 use Rattle.std.specs.Str.Parse.{IsNumeral}
 use Rattle.std.specs.Char.{digit_value}
 use Rattle.std.proofs.lemmas.Bool.{or_parts}
 use Rattle.std.proofs.lemmas.List.{append_assoc}
-use Rattle.std.proofs.lemmas.Fmt.{decimal_is_IsNumeral}
+use Rattle.std.proofs.lemmas.Fmt.{decimal_is_IsNumeral, decimal_nonempty}
 use Rattle.std.proofs.lemmas.Slice.Eq.{bytes_eq-Decides}
 use borrow.Author.Tests.{eqb-true}
 use Rattle.uuid.specs.Text.{digits_of, has_hyphens, parsed, parsed_simple, parsed_hyphenated}
@@ -24,8 +24,10 @@ use Rattle.clap.specs.declared.parser.matches.ArgMatches.TheViews.{out-ArgMatche
 use Rattle.command_words.specs.Found.{HoldsAll, IsFound, IsNone, Reads, value_in}
 use Rattle.clap.specs.Walk.{Row, Text, first_of, rows_of}
 use Rattle.command_words.specs.Uses.{AreDull, Once, Options, Spells, Use, command_named, commands, has_name, is_dull}
-use Rattle.command_words.specs.Uses.{option_named, reclock_options, shard_options, value_of}
-use Rattle.command_words.specs.Commands.{IsCommand, IsCount, Means, shard_in, uuid_number}
+use Rattle.command_words.specs.Uses.{ingest_options, option_named, reclock_options, shard_options, value_of}
+use Rattle.command_words.specs.Commands.{IsCommand, IsCount, IsCrew, Means, shard_in, uuid_number}
+use Rattle.command_words.specs.Stops.{AreStops, HasStops, item_text}
+use Rattle.command_words.specs.declared.stops.Stop.{Stop}
 use Rattle.command_words.specs.Program.{row}
 use Rattle.command_words.specs.declared.commands.CommandWords.{CommandWords}
 use Rattle.command_words.specs.declared.commands.CommandWords.TheVariants as command
@@ -130,11 +132,35 @@ shard_dull : (d : ℕ) (value : Option Text) (id : ℕ) → Some id ≡ shard_in
 shard_dull d None id e v is = cc
 shard_dull d (Some t) id e v is = let same : t ≡ v = cc in subst (λ x. is_dull x ≡ true) same (uuid_dull t id e)
 
-count_dull : (value : Option Text) (n : ℕ) → IsCount 1 16 value n → (v : Text) → value ≡ Some v → is_dull v ≡ true
-count_dull value n count v is =
+count_dull : (value : Option Text) (low high n : ℕ) → high < 2 ^ 64 → IsCount low high value n → (v : Text) → value ≡ Some v → is_dull v ≡ true
+count_dull value low high n fits count v is =
     let both : Some (decimal n) ≡ Some v = sym count.0 ∙ is in
     let same : decimal n ≡ v = cc in
-    subst (λ x. is_dull x ≡ true) same (number_dull n (omega (arith, count.2)))
+    let most = count.2 in
+    subst (λ x. is_dull x ≡ true) same (number_dull n (omega (arith, fits, most)))
+
+-- a list of stops begins with a digit
+front_dull : (xs ys : Text) → 0 < length xs → is_dull xs ≡ true → is_dull (xs ++ ys) ≡ true
+front_dull [] ys some h = absurd (omega (arith, some))
+front_dull (x ∷ xs) ys some h = h
+
+stops_dull : (workers : ℕ) → workers < 2 ^ 64 → (value : Option Text) (stops : List Stop) → HasStops workers value stops → (v : Text) →
+    value ≡ Some v → is_dull v ≡ true
+stops_dull workers bound None stops h v is = cc
+stops_dull workers bound (Some t) stops h v is = let same : t ≡ v = cc in subst (λ x. is_dull x ≡ true) same (go h.more h.text_is h.each)
+  where
+    tails : {x y : ℕ} {xs ys : Text} → x ∷ xs ≡ y ∷ ys → xs ≡ ys
+    tails e = cc
+
+    go : (more : List Stop) → 44 ∷ t ≡ flat_map item_text more → AreStops workers [] more → is_dull t ≡ true
+    go [] e each = cc
+    go (s ∷ ss) e each =
+        let lt = each.0.worker in
+        let small : s.worker < 2 ^ 64 = omega (arith, lt, bound) in
+        let text : t ≡ decimal s.worker ++ ((58 ∷ decimal s.calls) ++ flat_map item_text ss) =
+        tails e ∙ append_assoc (decimal s.worker) (58 ∷ decimal s.calls) (flat_map item_text ss) in
+        subst (λ x. is_dull x ≡ true) (sym text)
+        (front_dull (decimal s.worker) ((58 ∷ decimal s.calls) ++ flat_map item_text ss) (decimal_nonempty s.worker small) (number_dull s.worker small))
 
 options_of : (name n : Text) (options known : Options) → name ≡ n → command_named n commands ≡ Some (n, known) → command_named name commands
     ≡ Some (name, options) → options ≡ known
@@ -163,10 +189,31 @@ means_dull words name uses (command.Reclock remap shard operators) spells means 
       shard_dull 2 (value_of (codes "remap") uses) remap means.1,
       (
         shard_dull 3 (value_of (codes "data") uses) shard means.2,
-        (count_dull (value_of (codes "operators") uses) operators means.4, tt),
+        (count_dull (value_of (codes "operators") uses) 1 16 operators (omega arith) means.4, tt),
       ),
     ))
     spells.1.2.known (own_values [] uses uses refl spells.1.2.once)
+
+means_dull words name uses (command.Ingest shard w m g stops) spells means =
+    let is = options_of name (codes "ingest") spells.1.0 ingest_options means.0 refl spells.1.1 in
+    let crew = means.2 in
+    dull_uses spells.1.0 uses uses (subst (AllByRecursion (Dull uses)) (sym is) (
+      shard_dull 1 (value_of (codes "shard") uses) shard means.1,
+      (
+        count_dull (value_of (codes "writers") uses) 1 16 w (omega arith) crew.writers,
+        (
+          count_dull (value_of (codes "compactors") uses) 0 8 m (omega arith) crew.compactors,
+          (
+            count_dull (value_of (codes "collectors") uses) 0 8 g (omega arith) crew.collectors,
+            (stops_dull (w + m + g) (few_workers crew) (value_of (codes "stop") uses) stops means.3, tt),
+          ),
+        ),
+      ),
+    ))
+    spells.1.2.known (own_values [] uses uses refl spells.1.2.once)
+  where
+    few_workers : IsCrew (λ n. value_of n uses) w m g → w + m + g < 2 ^ 64
+    few_workers crew = let x = crew.writers.2 in let y = crew.compactors.2 in let z = crew.collectors.2 in omega (arith, x, y, z)
 
 -- ---- what the matches hold
 

@@ -1,5 +1,5 @@
 -- The readers of values.
-use Rattle.std.proofs.Common.{◌≡◌, ◌∙◌, ◌<◌, ◌≤◌, ◌^◌, ℕ, Bool, codes, true, false, not, refl, sym, ap, subst, arith, List}
+use Rattle.std.proofs.Common.{◌≡◌, ◌∙◌, ◌+◌, ◌<◌, ◌≤◌, ◌^◌, ℕ, Bool, codes, true, false, not, refl, sym, ap, subst, arith, List}
 use Rattle.std.proofs.Common.{[], Option, Some, None, Result, Ok, Err, option_map, true≢false, IfOk}
 use Rattle.std.specs.Prelude.{decimal, unwrap_or, IfNone, IfSome}
 use Rattle.std.specs.Int.{from_be_bytes, w128}
@@ -14,7 +14,9 @@ use Rattle.command_words.specs.declared.commands.CommandWords.{CommandWords}
 use Rattle.command_words.specs.declared.commands.CommandWords.TheVariants as command
 use Rattle.command_words.specs.declared.faults.WordsFault.{WordsFault}
 use Rattle.command_words.specs.declared.faults.WordsFault.TheVariants.{NoCommand}
-use Rattle.command_words.specs.Commands.{IsCommand, IsCount, Means, shard_in, uuid_number}
+use Rattle.command_words.specs.Commands.{IsCommand, IsCount, IsCrew, Means, shard_in, uuid_number}
+use Rattle.command_words.specs.Stops.{HasStops}
+use Rattle.command_words.specs.declared.stops.Stop.{Stop}
 use Rattle.command_words.specs.Found.{HasShards, HoldsAll, IsFound, Reads, answer_of}
 use Rattle.command_words.proofs.Meaning.{is_command, no_command}
 
@@ -78,6 +80,12 @@ pub other_count : (low high : ℕ) (t : Text) (v : Option Text) (r : Option ℕ)
 other_count low high t v (Some n) is h = h
 other_count low high t v None is h = λ n count. h n (ap (λ o. unwrap_or o []) (is ∙ count.0)) count.1 count.2
 
+pub count_one : (value : Option Text) (low high a b : ℕ) → high < 2 ^ 64 → IsCount low high value a → IsCount low high value b → a ≡ b
+count_one value low high a b fits p q =
+    let la = p.2 in
+    let lb = q.2 in
+    decimal_same a b (omega (arith, fits, la)) (omega (arith, fits, lb)) (ap (λ o. unwrap_or o []) (sym p.0 ∙ q.0))
+
 -- ---- commands
 
 apart : (a b : Text) → a ≡ b → bytes_eq a b ≡ false → ⊥
@@ -88,30 +96,61 @@ pub run_none : (value : Text → Option Text) → None ≡ shard_in 1 (value (co
 run_none value none (command.Run s) h = let bad : None ≡ Some s = none ∙ sym h.1 in cc
 run_none value none (command.Steps s) h = apart (codes "run") (codes "steps") h.0 refl
 run_none value none (command.Reclock a b n) h = apart (codes "run") (codes "reclock") h.0 refl
+run_none value none (command.Ingest s w m g l) h = apart (codes "run") (codes "ingest") h.0 refl
 
 pub steps_none : (value : Text → Option Text) → None ≡ shard_in 1 (value (codes "shard")) → (c : CommandWords)
     → Means (codes "steps") value c → ⊥
 steps_none value none (command.Run s) h = apart (codes "steps") (codes "run") h.0 refl
 steps_none value none (command.Steps s) h = let bad : None ≡ Some s = none ∙ sym h.1 in cc
 steps_none value none (command.Reclock a b n) h = apart (codes "steps") (codes "reclock") h.0 refl
+steps_none value none (command.Ingest s w m g l) h = apart (codes "steps") (codes "ingest") h.0 refl
 
 pub reclock_none : (value : Text → Option Text) → ((p : ℕ × ℕ) → HasShards value p → ⊥) → (c : CommandWords)
     → Means (codes "reclock") value c → ⊥
 reclock_none value none (command.Run s) h = apart (codes "reclock") (codes "run") h.0 refl
 reclock_none value none (command.Steps s) h = apart (codes "reclock") (codes "steps") h.0 refl
 reclock_none value none (command.Reclock a b n) h = none (a, b) (h.1, h.2, h.3)
+reclock_none value none (command.Ingest s w m g l) h = apart (codes "reclock") (codes "ingest") h.0 refl
 
 pub uncounted : (value : Text → Option Text) → ((n : ℕ) → IsCount 1 16 (value (codes "operators")) n → ⊥) → (c : CommandWords)
     → Means (codes "reclock") value c → ⊥
 uncounted value none (command.Run s) h = apart (codes "reclock") (codes "run") h.0 refl
 uncounted value none (command.Steps s) h = apart (codes "reclock") (codes "steps") h.0 refl
 uncounted value none (command.Reclock a b n) h = none n h.4
+uncounted value none (command.Ingest s w m g l) h = apart (codes "reclock") (codes "ingest") h.0 refl
+
+-- the words of a crew, by what isn't there: its shard, a count, or its stops
+pub ingest_none : (value : Text → Option Text) → ((shard w m g : ℕ) (l : List Stop) → Some shard ≡ shard_in 1 (value (codes "shard")) → IsCrew value w m g
+    → HasStops (w + m + g) (value (codes "stop")) l → ⊥) → (c : CommandWords) → Means (codes "ingest") value c → ⊥
+ingest_none value none (command.Run s) h = apart (codes "ingest") (codes "run") h.0 refl
+ingest_none value none (command.Steps s) h = apart (codes "ingest") (codes "steps") h.0 refl
+ingest_none value none (command.Reclock a b n) h = apart (codes "ingest") (codes "reclock") h.0 refl
+ingest_none value none (command.Ingest s w m g l) h = none s w m g l h.1 h.2 h.3
+
+pub no_shard : (value : Text → Option Text) → None ≡ shard_in 1 (value (codes "shard")) → (c : CommandWords) → Means (codes "ingest") value c → ⊥
+no_shard value none = ingest_none value (λ s w m g l is crew has. let bad : None ≡ Some s = none ∙ sym is in cc)
+
+pub no_crew : (value : Text → Option Text) → ((w m g : ℕ) → IsCrew value w m g → ⊥) → (c : CommandWords) → Means (codes "ingest") value c → ⊥
+no_crew value none = ingest_none value (λ s w m g l is crew has. none w m g crew)
+
+crew_one : (value : Text → Option Text) (w m g x y z : ℕ) → IsCrew value w m g → IsCrew value x y z → w + m + g ≡ x + y + z
+crew_one value w m g x y z p q =
+    let one = count_one (value (codes "writers")) 1 16 w x (omega arith) p.writers q.writers in
+    let two = count_one (value (codes "compactors")) 0 8 m y (omega arith) p.compactors q.compactors in
+    let three = count_one (value (codes "collectors")) 0 8 g z (omega arith) p.collectors q.collectors in
+    omega (arith, one, two, three)
+
+pub no_stops : (value : Text → Option Text) (w m g : ℕ) → IsCrew value w m g → ((l : List Stop) → HasStops (w + m + g) (value (codes "stop")) l → ⊥)
+    → (c : CommandWords) → Means (codes "ingest") value c → ⊥
+no_stops value w m g own none = ingest_none value (λ s x y z l is crew has.
+    none l (subst (λ n. HasStops n (value (codes "stop")) l) (crew_one value x y z w m g crew own) has))
 
 pub unnamed : (name : Text) (value : Text → Option Text) → bytes_eq name (codes "run") ≡ false → bytes_eq name (codes "steps") ≡ false
-    → bytes_eq name (codes "reclock") ≡ false → (c : CommandWords) → Means name value c → ⊥
-unnamed name value p q r (command.Run s) h = true≢false (sym ((bytes_eq-Decides name (codes "run")).1 h.0) ∙ p)
-unnamed name value p q r (command.Steps s) h = true≢false (sym ((bytes_eq-Decides name (codes "steps")).1 h.0) ∙ q)
-unnamed name value p q r (command.Reclock a b n) h = true≢false (sym ((bytes_eq-Decides name (codes "reclock")).1 h.0) ∙ r)
+    → bytes_eq name (codes "reclock") ≡ false → bytes_eq name (codes "ingest") ≡ false → (c : CommandWords) → Means name value c → ⊥
+unnamed name value p q r i (command.Run s) h = true≢false (sym ((bytes_eq-Decides name (codes "run")).1 h.0) ∙ p)
+unnamed name value p q r i (command.Steps s) h = true≢false (sym ((bytes_eq-Decides name (codes "steps")).1 h.0) ∙ q)
+unnamed name value p q r i (command.Reclock a b n) h = true≢false (sym ((bytes_eq-Decides name (codes "reclock")).1 h.0) ∙ r)
+unnamed name value p q r i (command.Ingest s w m g l) h = true≢false (sym ((bytes_eq-Decides name (codes "ingest")).1 h.0) ∙ i)
 
 pub as_named : (name word : Text) (value : Text → Option Text) (r : Option CommandWords) → true ≡ bytes_eq name word
     → IfSome r (Means word value) → IfSome r (Means name value)

@@ -1,7 +1,8 @@
 -- What the words of a command mean.
-use Rattle.std.specs.Prelude.{◌≡◌, ◌≢◌, ◌≤◌, ℕ, List, Option, Some, None, option_map, codes, decimal}
+use Rattle.std.specs.Prelude.{◌≡◌, ◌≢◌, ◌≤◌, ◌+◌, ℕ, List, Option, Some, None, option_map, codes, decimal}
 use Rattle.std.specs.Int.{from_be_bytes, w128}
 use Rattle.uuid.specs.Text.{parsed}
+use Rattle.command_words.specs.Stops.{HasStops}
 use Rattle.command_words.specs.Uses.{Use, Spells, commands, value_of}
 use Rattle.command_words.specs.declared.commands.CommandWords.{CommandWords}
 use Rattle.command_words.specs.declared.commands.CommandWords.TheVariants as command
@@ -19,6 +20,12 @@ shard_in default (Some text) = uuid_number text
 abbrev pub IsCount : ℕ → ℕ → Option (List ℕ) → ℕ → Type 0
 IsCount low high value n = (value ≡ Some (decimal n)) × (low ≤ n) × (n ≤ high)
 
+-- the options give a crew of so many writers, compactors and collectors
+pub record IsCrew (value : List ℕ → Option (List ℕ)) (w m g : ℕ) : Type 0 where
+  pub writers : IsCount 1 16 (value (codes "writers")) w
+  pub compactors : IsCount 0 8 (value (codes "compactors")) m
+  pub collectors : IsCount 0 8 (value (codes "collectors")) g
+
 -- a command word whose options have these values means this command
 abbrev pub Means : List ℕ → (List ℕ → Option (List ℕ)) → CommandWords → Type 0
 Means name value (command.Run shard) = (name ≡ codes "run") × (Some shard ≡ shard_in 1 (value (codes "shard")))
@@ -26,6 +33,9 @@ Means name value (command.Steps shard) = (name ≡ codes "steps") × (Some shard
 Means name value (command.Reclock remap shard operators) = (name ≡ codes "reclock")
     × (Some remap ≡ shard_in 2 (value (codes "remap"))) × (Some shard ≡ shard_in 3 (value (codes "data")))
     × (remap ≢ shard) × IsCount 1 16 (value (codes "operators")) operators
+Means name value (command.Ingest shard writers compactors collectors stops) = (name ≡ codes "ingest")
+    × (Some shard ≡ shard_in 1 (value (codes "shard"))) × IsCrew value writers compactors collectors
+    × HasStops (writers + compactors + collectors) (value (codes "stop")) stops
 
 -- the words are this command
 abbrev pub IsCommand : List (List ℕ) → CommandWords → Type 0

@@ -52,12 +52,17 @@ shard_options = (codes "shard", false) ∷ []
 abbrev pub reclock_options : Options
 reclock_options = (codes "remap", false) ∷ (codes "data", false) ∷ (codes "operators", true) ∷ []
 
+abbrev pub ingest_options : Options
+ingest_options = (codes "shard", false) ∷ (codes "writers", true) ∷ (codes "compactors", true) ∷ (codes "collectors", true)
+    ∷ (codes "stop", false) ∷ []
+
 -- the command words, each with its options
 abbrev pub Commands : Type 0
 Commands = List (List ℕ × Options)
 
 abbrev pub commands : Commands
-commands = (codes "run", shard_options) ∷ (codes "steps", shard_options) ∷ (codes "reclock", reclock_options) ∷ []
+commands = (codes "run", shard_options) ∷ (codes "steps", shard_options) ∷ (codes "reclock", reclock_options)
+    ∷ (codes "ingest", ingest_options) ∷ []
 
 abbrev pub command_named : List ℕ → Commands → Option (List ℕ × Options)
 command_named name table = find (λ e. bytes_eq e.0 name) table

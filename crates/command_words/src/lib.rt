@@ -9,8 +9,11 @@ mod programs;
 mod reading;
 #[cfg(test)]
 mod tests;
+mod stop_texts;
+mod stops;
 mod values;
 
 pub use commands::CommandWords;
 pub use faults::WordsFault;
 pub use reading::parse_words;
+pub use stops::{Stop, StopList};

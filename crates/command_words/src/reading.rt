@@ -1,17 +1,20 @@
 // The command that words are.
-ghost use Rattle.std.specs.Prelude.{◌≡◌, ℕ, Err, IfNone, IfOk, IfSome, codes, map};
+ghost use Rattle.std.specs.Prelude.{◌≡◌, false, ℕ, Err, IfNone, IfOk, IfSome, codes, map};
 ghost use Rattle.std.specs.String.{string_bytes};
-ghost use Rattle.command_words.specs.Commands.{IsCommand, Means};
-ghost use Rattle.command_words.specs.Found.{HasShards, Reads, answer_of, value_in};
+ghost use Rattle.std.specs.Str.{bytes_eq};
+ghost use Rattle.command_words.specs.Commands.{IsCommand, IsCrew, Means};
+ghost use Rattle.command_words.specs.Found.{HasShards, Reads, answer_of, value_in, with_stops};
 ghost use Rattle.command_words.specs.declared.commands.CommandWords.{CommandWords};
 ghost use Rattle.command_words.specs.declared.faults.WordsFault.TheVariants.{NoCommand};
 
 use crate::commands::CommandWords;
 use crate::faults::WordsFault;
 use crate::found::command_found;
+use crate::stop_texts::stops_of;
+use crate::stops::StopList;
 use crate::values::{count_of, shard_of};
 use clap::ArgMatches;
-use std::alloc::Global;
+use std::alloc::{AllocError, Global};
 
 #[tactic(auto, using(crate::proofs::Readers::run_none))]
 fn run_of(given: &ArgMatches<'_>) -> Option<CommandWords>
@@ -72,9 +75,74 @@ fn reclock_of(given: &ArgMatches<'_>) -> Option<CommandWords>
     }
 }
 
-// The command with this word and these options.
+// The counts of a crew.
+#[derive(Clone, Copy)]
+struct Crew {
+    writers: u64,
+    compactors: u64,
+    collectors: u64,
+}
+
+fn crew_of(given: &ArgMatches<'_>) -> Option<Crew>
+    ensures some { IfSome result (λ crew. IsCrew (value_in given.now) crew.writers crew.compactors crew.collectors) }
+    ensures none { IfNone result ((w m g : ℕ) → IsCrew (value_in given.now) w m g → ⊥) }
+{
+    match count_of(given, "writers", 1, 16) {
+        None => None,
+        Some(writers) => match count_of(given, "compactors", 0, 8) {
+            None => None,
+            Some(compactors) => match count_of(given, "collectors", 0, 8) {
+                None => None,
+                Some(collectors) => Some(Crew {
+                    writers,
+                    compactors,
+                    collectors,
+                }),
+            },
+        },
+    }
+}
+
+// The words of a crew, with these stops.
+fn crew_words(shard: u128, crew: Crew, stops: Option<StopList>) -> Option<CommandWords>
+    ensures { result ≡ with_stops shard crew.writers crew.compactors crew.collectors stops }
+{
+    match stops {
+        None => None,
+        Some(stops) => Some(CommandWords::Ingest {
+            shard,
+            writers: crew.writers,
+            compactors: crew.compactors,
+            collectors: crew.collectors,
+            stops,
+        }),
+    }
+}
+
+fn ingest_of(
+    alloc: Global,
+    given: &ArgMatches<'_>,
+) -> Result<Option<CommandWords>, AllocError>
+    ensures some { IfOk result (λ found. IfSome found (Means (codes "ingest") (value_in given.now))) }
+    ensures none { IfOk result (λ found. IfNone found ((c : CommandWords) → Means (codes "ingest") (value_in given.now) c → ⊥)) }
+{
+    match shard_of(given, "shard", 1) {
+        None => Ok(None),
+        Some(shard) => match crew_of(given) {
+            None => Ok(None),
+            Some(crew) => {
+                let workers = (crew.writers + crew.compactors + crew.collectors) as u32;
+                let stops = stops_of(alloc, given, workers)?;
+                Ok(crew_words(shard, crew, stops))
+            }
+        },
+    }
+}
+
+// The command with this word and these options, where it isn't `ingest`.
 #[tactic(auto, using(crate::proofs::Readers::unnamed, crate::proofs::Readers::as_named, crate::proofs::Readers::none_named))]
-fn command_of(name: &str, given: &ArgMatches<'_>) -> Option<CommandWords>
+fn short_command_of(name: &str, given: &ArgMatches<'_>) -> Option<CommandWords>
+    requires { bytes_eq name.now (codes "ingest") ≡ false }
     ensures some { IfSome result (Means name.now (value_in given.now)) }
     ensures none { IfNone result ((c : CommandWords) → Means name.now (value_in given.now) c → ⊥) }
 {
@@ -90,14 +158,32 @@ fn command_of(name: &str, given: &ArgMatches<'_>) -> Option<CommandWords>
     None
 }
 
+// The command with this word and these options.
+fn command_of(
+    alloc: Global,
+    name: &str,
+    given: &ArgMatches<'_>,
+) -> Result<Option<CommandWords>, AllocError>
+    ensures some { IfOk result (λ found. IfSome found (Means name.now (value_in given.now))) }
+    ensures none { IfOk result (λ found. IfNone found ((c : CommandWords) → Means name.now (value_in given.now) c → ⊥)) }
+{
+    if name == "ingest" {
+        return ingest_of(alloc, given);
+    }
+    Ok(short_command_of(name, given))
+}
+
 // The command that the matches hold.
-fn command_in(matches: &ArgMatches<'_>) -> Option<CommandWords>
-    ensures some { IfSome result (Reads matches.now) }
-    ensures none { IfNone result ((c : CommandWords) → Reads matches.now c → ⊥) }
+fn command_in(
+    alloc: Global,
+    matches: &ArgMatches<'_>,
+) -> Result<Option<CommandWords>, AllocError>
+    ensures some { IfOk result (λ found. IfSome found (Reads matches.now)) }
+    ensures none { IfOk result (λ found. IfNone found ((c : CommandWords) → Reads matches.now c → ⊥)) }
 {
     match matches.subcommand() {
-        None => None,
-        Some((name, given)) => command_of(name, given),
+        None => Ok(None),
+        Some((name, given)) => command_of(alloc, name, given),
     }
 }
 
@@ -119,6 +205,9 @@ pub fn parse_words(alloc: Global, words: &[String]) -> Result<CommandWords, Word
 {
     match command_found(alloc, words) {
         Err(fault) => Err(fault),
-        Ok(matches) => answer(command_in(&matches)),
+        Ok(matches) => match command_in(alloc, &matches) {
+            Err(_) => Err(WordsFault::Memory),
+            Ok(found) => answer(found),
+        },
     }
 }

@@ -55,7 +55,19 @@ fn other_words_are_no_command(rt: HostRuntime) -> Result<(), WordsFault> {
         "reclock --operators=17",
         "reclock --operators=1 --data=00000000000000000000000000000002",
         "reclock --operators=1 --shard=00000000000000000000000000000009",
-        "ingest --writers 1 --compactors 0 --collectors 0",
+        "ingest --writers 1 --compactors 0",
+        "ingest --writers 0 --compactors 0 --collectors 0",
+        "ingest --writers 17 --compactors 0 --collectors 0",
+        "ingest --writers 1 --compactors 9 --collectors 0",
+        "ingest --writers 1 --compactors 0 --collectors 09",
+        "ingest --writers 1 --compactors 0 --collectors 0 --stop=",
+        "ingest --writers 1 --compactors 0 --collectors 0 --stop 1:5",
+        "ingest --writers 2 --compactors 0 --collectors 0 --stop 0:5,0:6",
+        "ingest --writers 2 --compactors 0 --collectors 0 --stop 0:5,",
+        "ingest --writers 2 --compactors 0 --collectors 0 --stop ,0:5",
+        "ingest --writers 2 --compactors 0 --collectors 0 --stop 0:05",
+        "ingest --writers 2 --compactors 0 --collectors 0 --stop 0",
+        "ingest --writers 2 --compactors 0 --collectors 0 --operators 2",
         "gen 0 1",
     ] {
         assert!(rt; is_no_command(rt.alloc(), line)?, "{line}");
@@ -119,6 +131,27 @@ fn options_come_in_any_order(rt: HostRuntime) -> Result<(), WordsFault> {
             ),
             "{line}"
         );
+    }
+    Ok(())
+}
+
+// How many stops a line lists.
+fn stops_of(alloc: Global, line: &str) -> Result<Option<usize>, WordsFault> {
+    match command_of(alloc, line)? {
+        CommandWords::Ingest { stops, .. } => Ok(Some(stops.as_slice().len())),
+        _ => Ok(None),
+    }
+}
+
+#[test]
+fn a_crew_lists_its_stops(rt: HostRuntime) -> Result<(), WordsFault> {
+    for (line, wanted) in [
+        ("ingest --writers 1 --compactors 0 --collectors 0", 0),
+        ("ingest --writers=16 --compactors=8 --collectors=8 --shard=00000000000000000000000000000009", 0),
+        ("ingest --stop 0:5 --writers 4 --compactors 2 --collectors 1", 1),
+        ("ingest --writers 4 --stop=6:0,0:18446744073709551615,3:1 --compactors 2 --collectors 1", 3),
+    ] {
+        assert_eq!(rt; stops_of(rt.alloc(), line)?, Some(wanted), "{line}");
     }
     Ok(())
 }

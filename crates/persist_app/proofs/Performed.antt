@@ -7,6 +7,7 @@ use Rattle.feed_text.specs.Replies.{line_fault_text}
 use Rattle.feed_text.specs.Streams.{Gains}
 use Rattle.driving.specs.StoreTurns.{Extends}
 use Rattle.command_words.specs.declared.commands.CommandWords.TheVariants as commands
+use Rattle.command_words.specs.declared.stops.Stop.{Stop}
 use Rattle.command_words.specs.Commands.{IsCommand}
 use Rattle.command_words.proofs.OneMeaning.{one_meaning}
 use Rattle.plain_run.specs.declared.endings.Ending.{Ending}
@@ -66,6 +67,12 @@ pub reclocks_are_none : (words : List (List ℕ)) (remap other operators : ℕ) 
 reclocks_are_none words remap other operators x shard y =
     let e : commands.Reclock remap other operators ≡ commands.Run shard.0 =
     one_meaning words (commands.Reclock remap other operators) (commands.Run shard.0) x y in absurd cc
+
+pub ingests_are_none : (words : List (List ℕ)) (n writers compactors collectors : ℕ) (stops : List Stop) →
+    IsCommand words (commands.Ingest n writers compactors collectors stops) → NoRun words
+ingests_are_none words n writers compactors collectors stops x shard y =
+    let e : commands.Ingest n writers compactors collectors stops ≡ commands.Run shard.0 =
+    one_meaning words (commands.Ingest n writers compactors collectors stops) (commands.Run shard.0) x y in absurd cc
 
 -- nothing was called
 pub extends_none : (a : Option History) → Extends a a

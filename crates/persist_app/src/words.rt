@@ -15,6 +15,7 @@ pub fn run_shard(alloc: Global, words: &[String]) -> Result<Option<ShardId>, All
         Ok(CommandWords::Run { shard }) => Ok(Some(ShardId(shard))),
         Ok(CommandWords::Steps { .. }) => Ok(None),
         Ok(CommandWords::Reclock { .. }) => Ok(None),
+        Ok(CommandWords::Ingest { .. }) => Ok(None),
         Err(WordsFault::NoCommand) => Ok(None),
         Err(WordsFault::Memory) => Err(AllocError),
     }
