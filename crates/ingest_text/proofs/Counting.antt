@@ -23,6 +23,7 @@ listens_on (commands.Append a ∷ qs) q = listens_on qs q
 listens_on (commands.Snapshot t ∷ qs) q = listens_on qs q
 listens_on (commands.Listen t ∷ qs) q = let h = listens_on qs q in omega (arith, h)
 listens_on (commands.Since t ∷ qs) q = listens_on qs q
+listens_on (commands.Compact ∷ qs) q = listens_on qs q
 
 empty_since : (o : Option ℕ) → since_count o ≡ 0 → o ≡ None
 empty_since None h = refl

@@ -24,18 +24,22 @@ query_no_append (commands.Append a) line l u h e is = h
 query_no_append (commands.Snapshot t) line l u h e is = append_no_snapshot l u t (sym is ∙ only e)
 query_no_append (commands.Listen t) line l u h e is = append_no_listen l u t (sym is ∙ only e)
 query_no_append (commands.Since t) line l u h e is = h
+query_no_append commands.Compact line l u h e is = h
 
 pub query_no_since : (q : FeedLine) (line : List ℕ) (to : ℕ) → IsQuery q → command_lines q ≡ line ∷ [] → line ≡ since_line to → ⊥
 query_no_since (commands.Append a) line to h e is = h
 query_no_since (commands.Snapshot t) line to h e is = since_no_snapshot to t (sym is ∙ only e)
 query_no_since (commands.Listen t) line to h e is = listen_no_since t to (sym (only e) ∙ is)
 query_no_since (commands.Since t) line to h e is = h
+query_no_since commands.Compact line to h e is = h
 
 pub query_one : (q r : FeedLine) (line : List ℕ) → IsQuery q → IsQuery r → command_lines q ≡ line ∷ [] → command_lines r ≡ line ∷ [] → q ≡ r
 query_one (commands.Append a) r line h k e f = absurd h
 query_one (commands.Since t) r line h k e f = absurd h
+query_one commands.Compact r line h k e f = absurd h
 query_one q (commands.Append a) line h k e f = absurd k
 query_one q (commands.Since t) line h k e f = absurd k
+query_one q commands.Compact line h k e f = absurd k
 query_one (commands.Snapshot s) (commands.Snapshot t) line h k e f = ap commands.Snapshot (snapshot_one s t h k (sym (only e) ∙ only f))
 query_one (commands.Snapshot s) (commands.Listen t) line h k e f = absurd (listen_no_snapshot t s (sym (only f) ∙ only e))
 query_one (commands.Listen s) (commands.Snapshot t) line h k e f = absurd (listen_no_snapshot s t (sym (only e) ∙ only f))

@@ -37,3 +37,4 @@ no_question line snapshot listen (commands.Append a) h e = h
 no_question line snapshot listen (commands.Snapshot t) h e = snapshot t h (only e)
 no_question line snapshot listen (commands.Listen t) h e = listen t h (only e)
 no_question line snapshot listen (commands.Since t) h e = h
+no_question line snapshot listen commands.Compact h e = h
