@@ -15,11 +15,7 @@ use update_core::Frontier;
 use write_client::Writer;
 
 // A compactor that has been polled until its open ended.
-fn joined_compactor(
-    alloc: Global,
-    store: &mut UntoldStore,
-    client: u64,
-) -> Result<Compactor, Fail>
+fn joined_compactor(alloc: Global, store: &mut UntoldStore, client: u64) -> Result<Compactor, Fail>
     ensures { IfOk result IsSoundCompactor }
 {
     let mut compactor = Compactor::open(alloc, SHARD, 0, 100);
@@ -119,6 +115,9 @@ fn merges_write_n_log_n(rt: HostRuntime) -> Result<(), Fail> {
     let few = bytes_merged(alloc, 100)?;
     let many = bytes_merged(alloc, 400)?;
     assert!(rt; few > 0);
-    assert!(rt; many.saturating_mul(5 * 664) <= few.saturating_mul(6 * 3_458), "{many} bytes beside {few}");
+    assert!(rt;
+        many.saturating_mul(5 * 664) <= few.saturating_mul(6 * 3_458),
+        "{many} bytes beside {few}"
+    );
     Ok(())
 }
