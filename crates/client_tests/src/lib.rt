@@ -11,5 +11,3 @@ mod merges;
 mod scenes;
 #[cfg(test)]
 mod tests;
-#[cfg(test)]
-mod upkeep;

@@ -24,8 +24,8 @@ fn answer_word(answer: MergeAnswer) -> (&'static str, u64) {
     }
 }
 
-/// What a poll came to, with its number.
-pub fn word(poll: Option<Poll<MergeAnswer>>) -> (&'static str, u64) {
+// What a poll came to, with its number.
+fn word(poll: Option<Poll<MergeAnswer>>) -> (&'static str, u64) {
     match poll {
         Some(Poll::Done(answer)) => answer_word(answer),
         Some(Poll::Fault) => ("fault", 0),
@@ -77,8 +77,7 @@ fn begin_word(begun: Result<(), BeginFault>) -> &'static str {
     }
 }
 
-/// Begins a merge.
-pub fn merge_word(alloc: Global, compactor: &mut Compactor) -> &'static str
+fn merge_word(alloc: Global, compactor: &mut Compactor) -> &'static str
     requires { IsSoundCompactor compactor.old }
     ensures { IsSoundCompactor compactor.new }
 {
@@ -102,8 +101,8 @@ fn close_word(alloc: Global, compactor: &mut Compactor) -> &'static str
     begin_word(begun)
 }
 
-/// A writer appends one row at each of two times, in a batch each.
-pub fn append_two(alloc: Global, store: &mut UntoldStore) -> Result<(), Fail> {
+// A writer that has appended one row at each of two times, in a batch each.
+fn append_two(alloc: Global, store: &mut UntoldStore) -> Result<(), Fail> {
     let mut writer = opened_writer(alloc, store, 0)?;
     writer.begin_append(alloc, row(alloc, b"x", 1, 1)?, 0, Frontier::at(5))?;
     write_on(alloc, &mut writer, store, 0, 9)?;
