@@ -1,4 +1,4 @@
--- The appends of a feed, which follow on one another. docs/DEFINITIONS.md, "Crews".
+-- The appends of a feed, which follow on one another. docs/DEFINITIONS.md, "Feeds of appends".
 use Rattle.std.specs.Prelude.{◌≡◌, ⊤, ℕ, ◌+◌, ◌≤◌, ◌^◌, true, Option, Some, List, [], ◌∷◌, ◌++◌, length, if◌then◌else◌}
 use Rattle.std.specs.List.{AllByRecursion}
 use Rattle.update_core.specs.declared.updates.Update.{Update}

@@ -6,6 +6,3 @@ mod feed_checks;
 
 pub use append_lists::AppendList;
 pub use feed_checks::is_feed;
-
-#[cfg(test)]
-mod tests;

@@ -42,8 +42,3 @@ pub use replies::RunReply;
 pub use row_lines::row;
 pub use sinks::{Sink, SinkFault, put_all};
 pub use sources::{Source, SourceFault};
-
-#[cfg(test)]
-mod stream_tests;
-#[cfg(test)]
-mod tests;

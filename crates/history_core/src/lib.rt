@@ -24,6 +24,3 @@ pub use expire_answers::ExpireAnswer;
 pub use merge_answers::MergeAnswer;
 pub use read_answers::ReadAnswer;
 pub use write_answers::WriteAnswer;
-
-#[cfg(test)]
-mod tests;

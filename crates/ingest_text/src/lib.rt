@@ -13,6 +13,3 @@ mod timed_lines;
 pub use feeds::IngestFeed;
 pub use ingest_parsing::parse_ingest;
 pub use limits::{MAX_LISTENS, MAX_WEIGHT};
-
-#[cfg(test)]
-mod tests;

@@ -11,7 +11,7 @@ use Rattle.store_core.specs.declared.entries.Entry.{Entry}
 use Rattle.store_core.specs.Stores.{Stored}
 use Rattle.store_core.specs.Ports.{Answered}
 use Rattle.store_core.specs.Newest.{mine_back}
-use Rattle.part_codec.proofs.Fields.{IsBytes}
+use Rattle.store_core.specs.ByteLists.{IsBytes}
 use Rattle.state_core.specs.declared.kinds.Kind.TheVariants.{Keeper}
 use Rattle.state_core.specs.VersionReading.{most}
 use Rattle.state_core.specs.declared.transitions.Transition.{Transition}

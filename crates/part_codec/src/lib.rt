@@ -9,6 +9,3 @@ mod part_faults;
 pub use decoding::decode_part;
 pub use encoding::encode_part;
 pub use part_faults::PartFault;
-
-#[cfg(test)]
-mod tests;

@@ -11,6 +11,3 @@ mod taking;
 pub use history_core::{Asked, ReadAnswer};
 pub use load_core::{BeginFault, Damage, Poll};
 pub use readers::Reader;
-
-#[cfg(test)]
-mod tests;

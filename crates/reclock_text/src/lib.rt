@@ -20,6 +20,3 @@ pub use printing::{print_bindings, print_data, print_operator, print_unbound};
 pub use reclock_parsing::parse_reclock;
 pub use saw_lists::SawList;
 pub use saws::Saw;
-
-#[cfg(test)]
-mod tests;

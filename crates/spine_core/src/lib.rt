@@ -13,6 +13,3 @@ pub use descs::Desc;
 pub use key_lists::KeyList;
 pub use spine_faults::SpineFault;
 pub use spines::Spine;
-
-#[cfg(test)]
-mod tests;

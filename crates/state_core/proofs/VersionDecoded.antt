@@ -6,7 +6,7 @@ use Rattle.state_core.specs.declared.version_faults.VersionFault.{VersionFault}
 use Rattle.state_core.specs.States.{ShardState}
 use Rattle.state_core.specs.VersionReading.{Gives, read_version}
 use Rattle.state_core.specs.Versions.{VersionOf}
-use Rattle.state_core.proofs.VersionFields.{IsBytes}
+use Rattle.store_core.specs.ByteLists.{IsBytes}
 use Rattle.state_core.proofs.VersionFacts.{read_took, read_again}
 
 pub is_found : (shard : ShardId) (number : ℕ) (bytes : List ℕ) (r : Result (ShardState × Transition) VersionFault) → IsBytes bytes → Gives (λ y. (y.0, y.1)) r (read_version shard number bytes)

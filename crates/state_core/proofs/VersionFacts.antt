@@ -8,7 +8,8 @@ use Rattle.state_core.specs.declared.version_faults.VersionFault.{VersionFault}
 use Rattle.state_core.specs.States.{ShardState, IsState}
 use Rattle.state_core.specs.VersionReading.{magic_at, form_at, state_at, step_at, read_version, whole, version_in}
 use Rattle.state_core.specs.Versions.{state_bytes, step_bytes, version_spelling, IsVersion, VersionOf}
-use Rattle.state_core.proofs.VersionFields.{IsBytes, bind_then, guard_passed, ok_is, Took, took_then, magic_took, magic_again, form_took, form_again}
+use Rattle.store_core.specs.ByteLists.{IsBytes}
+use Rattle.state_core.proofs.VersionFields.{bind_then, guard_passed, ok_is, Took, took_then, magic_took, magic_again, form_took, form_again}
 use Rattle.state_core.proofs.VersionStates.{ReadState, state_took, state_again}
 use Rattle.state_core.proofs.VersionTransitions.{ReadStep, step_took, step_again}
 

@@ -4,6 +4,8 @@ use Rattle.std.specs.Int.{Width, w16, w32, w64, byte_len, from_be_bytes, to_be_b
 use Rattle.std.proofs.lemmas.Bool.{cases_lt, ltb-false, ltb-true, le-leb, le-ltb, eqb-true}
 use Rattle.std.proofs.lemmas.List.{take_at, drop_at, take-append-drop, length-append, length-take, get_or-drop, get_or-take, get_or_past}
 use Rattle.std.proofs.lemmas.Nat.{be_bytes_2, be_bytes_4, be_bytes_8, from_be_bytes-to_be_bytes_2, from_be_bytes-to_be_bytes_4, from_be_bytes-to_be_bytes_8}
+use Rattle.store_core.specs.ByteLists.{IsBytes}
+use Rattle.store_core.proofs.ByteLists.{IsBytes-drop, IsBytes-take, IsBytes-rest}
 use Rattle.state_core.specs.declared.kinds.Kind.{Kind}
 use Rattle.state_core.specs.declared.kinds.Kind.TheVariants.{Writer, Reader, Keeper}
 use Rattle.state_core.specs.declared.version_faults.VersionFault.{VersionFault}
@@ -11,23 +13,6 @@ use Rattle.state_core.specs.declared.version_faults.VersionFault.TheVariants as 
 use Rattle.state_core.specs.VersionReading.{◌>>=◌, place, byte_at, wide_at, number_at, limited_at, below_at, magic, magic_at, form_at, frontier_at, time_at, kind_at, kind_of, known_kind}
 use Rattle.state_core.specs.Versions.{number_bytes, frontier_bytes, kind_byte, NumberFits, FrontierFits}
 use Rattle.state_core.proofs.ListLemmas.{bool_cases}
-
--- each is a byte
-abbrev pub IsBytes : List ℕ → Type 0
-IsBytes bytes = (i : ℕ) → get_or bytes i 0 < 256
-
-IsBytes-drop : (n : ℕ) (bytes : List ℕ) → IsBytes bytes → IsBytes (drop n bytes)
-IsBytes-drop n bytes h i = rw get_or-drop (h (n + i))
-
-IsBytes-take : (n : ℕ) (bytes : List ℕ) → IsBytes bytes → IsBytes (take n bytes)
-IsBytes-take n bytes h i =
-    elim (cases_lt i n) [
-      | inl lt ↦ rw (get_or-take n bytes i 0 lt) (h i)
-      | inr le ↦ rw (get_or_past (take n bytes) i 0 (omega (arith, length-take n bytes))) (omega arith)
-    ]
-
-IsBytes-rest : (b : ℕ) (bytes : List ℕ) → IsBytes (b ∷ bytes) → IsBytes bytes
-IsBytes-rest b bytes h i = h (suc i)
 
 -- the value of a step that did not fail
 pub bind_ok : {A B : Type 0} (r : Result A VersionFault) (f : A → Result B VersionFault) (y : B) → (r >>= f) ≡ Ok y → (x : A) × (r ≡ Ok x) × (f x ≡ Ok y)

@@ -31,8 +31,3 @@ pub use transitions::Transition;
 pub use version_decoding::decode_version;
 pub use version_encoding::encode_version;
 pub use version_faults::VersionFault;
-
-#[cfg(test)]
-mod tests;
-#[cfg(test)]
-mod version_tests;

@@ -31,6 +31,3 @@ pub use step_line_lists::StepLines;
 pub use step_lines::StepLine;
 pub use step_parsing::parse_steps;
 pub use verbs::{Verb, verb_of};
-
-#[cfg(test)]
-mod tests;

@@ -45,8 +45,3 @@ pub use stores::Store;
 pub use turns::Turn;
 pub use version_lists::VersionList;
 pub use versions::Version;
-
-#[cfg(test)]
-mod clients;
-#[cfg(test)]
-mod tests;

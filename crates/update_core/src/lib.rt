@@ -22,8 +22,3 @@ pub use rows::Row;
 pub use sums::{advance, consolidate, slice_between, sum_at, weight};
 pub use update_lists::UpdateList;
 pub use updates::Update;
-
-#[cfg(test)]
-mod slow_sums;
-#[cfg(test)]
-mod tests;

@@ -1,5 +1,0 @@
-use Rattle.read_client.specs.Reading.{IsSound}
-use Rattle.read_client.proofs.tests.answer.Given as goal
-
-abbrev pub invariant-loop : goal.invariant-loop
-invariant-loop l = IsSound l.reader

@@ -1,5 +1,0 @@
-use Rattle.read_client.specs.Reading.{IsSound}
-use Rattle.read_client.proofs.tests.count.Given as goal
-
-abbrev pub invariant-loop-scene : goal.invariant-loop-scene
-invariant-loop-scene l = IsSound l.reader

@@ -1,0 +1,5 @@
+//! Tests of a reader at one store.
+#![tactic(auto)]
+
+#[cfg(test)]
+mod readers;

@@ -1,0 +1,5 @@
+//! Tests of a writer at one store.
+#![tactic(auto)]
+
+#[cfg(test)]
+mod writers;
