@@ -7,8 +7,6 @@ mod found;
 pub mod laws;
 mod programs;
 mod reading;
-#[cfg(test)]
-mod tests;
 mod values;
 
 pub use commands::CommandWords;

@@ -21,6 +21,3 @@ pub use plans::Plan;
 pub use stops::{Stop, StopList};
 pub use worker_ports::WorkerPort;
 pub use workers::Worker;
-
-#[cfg(test)]
-mod tests;

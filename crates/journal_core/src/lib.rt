@@ -26,6 +26,3 @@ pub use mem_disks::MemDisk;
 pub use opening::{begin, load, repair};
 pub use reading::{Frame, first_number, next_frame};
 pub use records::Record;
-
-#[cfg(test)]
-mod tests;

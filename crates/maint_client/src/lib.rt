@@ -14,8 +14,3 @@ pub use expiries::Expiry;
 pub use history_core::{Asked, CollectAnswer, ExpireAnswer};
 pub use load_core::{BeginFault, Damage, Poll};
 pub use sweeps::Sweep;
-
-#[cfg(test)]
-mod collecting_tests;
-#[cfg(test)]
-mod tests;

@@ -5,6 +5,3 @@ mod drafts;
 pub mod laws;
 
 pub use drafts::{MergeDraft, Owner, merge_draft};
-
-#[cfg(test)]
-mod tests;

@@ -21,10 +21,3 @@ pub use ends::Ended;
 pub use on_disk::persist_on_disk;
 pub use plain::persist_plain;
 pub use system_clocks::SystemClock;
-
-#[cfg(test)]
-mod deaf_stores;
-#[cfg(test)]
-mod disk_tests;
-#[cfg(test)]
-mod tests;

@@ -1,4 +1,4 @@
-//! Tests of texts: feeds, schedules, shared feeds, sources, appends and bindings.
+//! Tests of texts: words, feeds, schedules, shared feeds, sources, appends and bindings.
 #![tactic(auto)]
 
 #[cfg(test)]
@@ -15,3 +15,5 @@ mod reclocks;
 mod schedules;
 #[cfg(test)]
 mod streams;
+#[cfg(test)]
+mod words;

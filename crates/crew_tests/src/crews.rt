@@ -2,8 +2,8 @@
 ghost use Rattle.std.specs.Prelude.{◌≤◌};
 ghost use Rattle.appends_core.specs.Feeds.{IsFeed};
 
-use super::*;
 use appends_core::{AppendList, is_feed};
+use crew::*;
 use read_client::Reader;
 use std::alloc::Global;
 use std::sync::Wait;

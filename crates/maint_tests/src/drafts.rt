@@ -1,4 +1,4 @@
-use crate::{Owner, merge_draft};
+use merge_core::{Owner, merge_draft};
 use spine_core::{Batch, Desc, KeyList};
 use state_core::Transition;
 use std::alloc::{AllocError, Global};

@@ -1,5 +1,5 @@
-use super::*;
 use causes::NumberList;
+use journal_core::*;
 use std::alloc::Global;
 use std::test::Fail;
 

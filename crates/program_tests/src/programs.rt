@@ -2,10 +2,10 @@ ghost use Rattle.std.specs.Prelude.{IfOk};
 ghost use Rattle.std.specs.List.{AllByRecursion};
 ghost use Rattle.store_core.specs.Starting.{CanStart, NoneTwice, same_shard, shards_of};
 
-use super::*;
 use crate::deaf_stores::DeafStore;
 use causes::NumberList;
 use feed_text::{Feed, FeedLine, MemSink, MemSource, RunReply, parse_feed, print_reply};
+use persist_app::*;
 use plain_run::PlainCollection;
 use state_core::{Transition, decode_version};
 use std::alloc::{AllocError, Global};

@@ -1,7 +1,5 @@
 // The rules of the words, by examples.
-use crate::commands::CommandWords;
-use crate::faults::WordsFault;
-use crate::reading::parse_words;
+use command_words::{CommandWords, WordsFault, parse_words};
 use std::alloc::{AllocError, Global};
 
 fn words_of(alloc: Global, line: &str) -> Result<Vec<String>, AllocError> {

@@ -1,8 +1,8 @@
 // Tests of a command over a disk in memory.
-use super::*;
 use causes::NumberList;
 use feed_text::{MemSink, MemSource};
 use journal_core::{Disk, MemDisk};
+use persist_app::*;
 use std::alloc::{AllocError, Global};
 use std::test::Fail;
 use store_core::Bytes;

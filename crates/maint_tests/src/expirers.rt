@@ -5,8 +5,8 @@ ghost use Rattle.store_core.specs.Starting.{CanStart, NoneTwice, same_shard, sha
 ghost use Rattle.try_machine.specs.Tryers.{IsSound};
 ghost use Rattle.maint_client.specs.Expiring.{expiring};
 
-use super::*;
 use load_core::{Attempt, Ready, first_version};
+use maint_client::*;
 use state_core::{Kind, Transition};
 use std::alloc::{AllocError, Global};
 use std::test::Fail;

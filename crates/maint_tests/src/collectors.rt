@@ -1,8 +1,8 @@
 // Tests of the collector, over a shard whose two batches were merged.
 ghost use Rattle.maint_client.specs.Collecting.{IsSound};
 
-use super::*;
 use load_core::{Attempt, Ready, first_version};
+use maint_client::*;
 use spine_core::{Batch, Desc, KeyList};
 use state_core::{Kind, Transition};
 use std::alloc::{AllocError, Global};

@@ -1,0 +1,5 @@
+//! Tests of crews, which run in threads.
+#![tactic(auto)]
+
+#[cfg(test)]
+mod crews;
