@@ -188,7 +188,7 @@ module _ (base client : ℕ) (c : Compactor) (list : List Update) (start : Store
         (at (subst (λ (n : ℕ). n < most) calls_same lt))
 
     pub read_cost : (new : Compactor) (poll : Poll MergeAnswer) → MovesFit c here new poll → Poll_of new poll
-    read_cost new poll (r, p, moves, poll_is, new_is) =
+    read_cost new poll (r, p, moves, (poll_is, new_is)) =
         subst (λ (z : Compactor). Poll_of z poll) (sym new_is)
         (subst (λ (x : Poll MergeAnswer). Poll_of (after_poll (taken_back (reading_on c r) p) x) x) (sym poll_is)
         (by p refl (read_keeps.cost base client c.reading c.reading r e.call p list start e others es (omega arith) refl
@@ -291,6 +291,10 @@ pub cost_ready : (base client : ℕ) (c : Compactor) (list : List Update) (start
 cost_ready base client c list start e others es three ready own call_is of st lawful f at new poll prepared moves =
     go c.reading.asked refl moves
   where
+    noted_cost : (q : Due) → c.reading.asked ≡ Some q → CostAt base client (noted c) start es list
+    noted_cost q is lt = subst (λ (o : Option Due). CostBy o c.pair base client (noted c) start es) (sym is)
+        (subst (λ (o : Option Due). CostBy o c.pair base client c start es) is (at lt))
+
     go : (o : Option Due) → c.reading.asked ≡ o → MovesBy o c (reply (replay_back start (others ++ es)) e) new poll →
         CostPoll base client c new poll start (e ∷ (others ++ es)) list
     go None none (s, tried, asked, m, busy, poll_is, new_is) =
@@ -299,5 +303,5 @@ cost_ready base client c list start e others es three ready own call_is of st la
         asked m busy poll (sym poll_is))
     go (Some q) is m = unnoted base client c new poll start (e ∷ (others ++ es)) list
         (read_cost base client (noted c) list start e others es three (noted_ready c ready) own call_is of st lawful
-        (noted_follows client c start es f.follows) at q is new poll
+        (noted_follows client c start es f.follows) (noted_cost q is) q is new poll
         (fit_moves client c start list e others es ready own call_is of st lawful f.follows f.counts q is new poll m))

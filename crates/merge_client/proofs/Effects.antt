@@ -139,7 +139,7 @@ effect_of old new call reply poll sound call_is moves = go old.reading.asked ref
         Effect (shard_of old) call reply poll
     go None none is (s, tried, asked, m, asked_is, poll_is, new_is) = subst (Effect (shard_of old) call reply) (sym poll_is)
         (verdict_did old s call reply tried sound is m asked)
-    go (Some q) some is (r, read, m, poll_is, new_is) =
+    go (Some q) some is (r, read, m, (poll_is, new_is)) =
         let did = read_keeps.effect old.reading r call reply read sound.sound.reading
         (subst (λ (o : Option Due). IsSome o) (sym some) refl) is m in
         subst (Effect (shard_of old) call reply) (sym poll_is) (told (misfit (noted old) r) read

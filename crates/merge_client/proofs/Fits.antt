@@ -88,6 +88,10 @@ module _ (client : ℕ) (c : Compactor) (start : Stored) (list : List Update) (e
   abbrev old : Getting
   old = c.reading.course.getting
 
+  -- what the pair says whose parts are got
+  abbrev bound_for : k.stage ≡ stages.Get → PairBound
+  bound_for stage = bound_there client c start list e others es ready own call_is of st lawful f counts q some stage
+
   module _ (r : Reading Due) (p : Poll Found) (moves : readings.Moves finding c.reading here r p) where
     -- no part is told not to fit
     abbrev Fit : Option PairBound → Getting → Type 0
@@ -102,10 +106,10 @@ module _ (client : ℕ) (c : Compactor) (start : Stored) (list : List Update) (e
         let is = bound_is client c start list e others es ready own call_is of st lawful f counts q some stage in
         subst (λ (o : Option PairBound). Fit o g) (sym is) (by how)
       where
-        same : g ≡ old → Fit (Some (bound_there client c start list e others es ready own call_is of st lawful f counts q some stage)) g
-        same is = same_place (bound_there client c start list e others es ready own call_is of st lawful f counts q some stage) (noted_by (Some (bound_there client c start list e others es ready own call_is of st lawful f counts q some stage)) old c.left_rows) old.place (length old.rows) g (ap (λ (z : Getting). z.place) is)
+        same : g ≡ old → Fit (Some (bound_for stage)) g
+        same is = same_place (bound_for stage) (noted_by (Some (bound_for stage)) old c.left_rows) old.place (length old.rows) g (ap (λ (z : Getting). z.place) is)
 
-        by : HowGot old here g x → Fit (Some (bound_there client c start list e others es ready own call_is of st lawful f counts q some stage)) g
+        by : HowGot old here g x → Fit (Some (bound_for stage)) g
         by (gains bytes part r_is reads is goes) = fits_now client c start list e others es ready own call_is of st lawful f counts q some
             stage g bytes part r_is reads is
         by (fails r_is is x_is) = same is
@@ -152,18 +156,18 @@ module _ (client : ℕ) (c : Compactor) (start : Stored) (list : List Update) (e
     sight_on s sights.Strange is = scans_on (holding (counted k) s) stages.Scan is tt
     sight_on s (sights.Answer a) is = scans_on (holding (counted k) s) stages.Scan is tt
     sight_on s (sights.Parts keys) is = none_got Mine n (getting.begun keys)
-        (bound_at (staged (holding (counted k) s) (sights.Parts keys)) stages.Get) refl
+        (bound_at (staged {A = Found} (holding (counted k) s) (sights.Parts keys)) stages.Get) refl
 
     got_on : (stage : k.stage ≡ stages.Get) (g : Getting) (x : Fetched) → HowGot old here g x → Counted (record (counted k) { getting = g })
     got_on stage g x how =
         let is = bound_is client c start list e others es ready own call_is of st lawful f counts q some stage in
         subst (λ (o : Option PairBound). CountsBy Mine (noted_by o old c.left_rows) g o) (sym is) (by how)
       where
-        same : g ≡ old → CountsBy Mine (noted_by (Some (bound_there client c start list e others es ready own call_is of st lawful f counts q some stage)) old c.left_rows) g (Some (bound_there client c start list e others es ready own call_is of st lawful f counts q some stage))
-        same is = subst (λ (z : Getting). CountsBy Mine (noted_by (Some (bound_there client c start list e others es ready own call_is of st lawful f counts q some stage)) old c.left_rows) z (Some (bound_there client c start list e others es ready own call_is of st lawful f counts q some stage))) (sym is)
+        same : g ≡ old → CountsBy Mine (noted_by (Some (bound_for stage)) old c.left_rows) g (Some (bound_for stage))
+        same is = subst (λ (z : Getting). CountsBy Mine (noted_by (Some (bound_for stage)) old c.left_rows) z (Some (bound_for stage))) (sym is)
             (still_counts client c start list e others es ready own call_is of st lawful f counts q some stage)
 
-        by : HowGot old here g x → CountsBy Mine (noted_by (Some (bound_there client c start list e others es ready own call_is of st lawful f counts q some stage)) old c.left_rows) g (Some (bound_there client c start list e others es ready own call_is of st lawful f counts q some stage))
+        by : HowGot old here g x → CountsBy Mine (noted_by (Some (bound_for stage)) old c.left_rows) g (Some (bound_for stage))
         by (gains bytes part r_is reads is goes) = part_counts client c start list e others es ready own call_is of st lawful f counts q
             some stage g bytes part r_is reads is
         by (fails r_is is x_is) = same is

@@ -38,7 +38,7 @@ use Rattle.merge_client.specs.declared.dues.Due.{Due}
 use Rattle.merge_client.specs.declared.founds.Found.{Found}
 use Rattle.merge_client.specs.Finding.{finding}
 use Rattle.merge_client.specs.Fitting.{bound_at}
-use Rattle.merge_client.specs.Following.{Tries}
+use Rattle.merge_client.specs.Following.{Counts, Tries}
 use Rattle.merge_client.specs.Machining.{Ended, Kept, Moves, kept, machine}
 use Rattle.merge_client.specs.Merging as merging
 use Rattle.merge_client.specs.Merging.{IsOpen, IsReady, MovesBy, Prepares, Wants, WantsBy, after_poll, call_by, call_of, given_back, pair_after}
@@ -51,12 +51,22 @@ use Rattle.merge_client.proofs.Following.{follows_past, follows_spared}
 use Rattle.merge_client.proofs.Legality.{legal_step}
 use Rattle.merge_client.proofs.Counts.{counts_gained, counts_past}
 use Rattle.merge_client.proofs.Moved.{is_there, moved_counts, moved_on, wants_counts, wants_on}
-use Rattle.merge_client.proofs.Preparing.{cost_prepared, prepared, prepares_calls, prepares_counts, prepares_kept, prepares_reading}
+use Rattle.merge_client.proofs.Preparing.{How, cost_prepared, drafts as was_drafted, prepared, reads as was_read, tries as was_tried, how, prepares_calls, prepares_kept, prepares_reading}
 use Rattle.merge_client.proofs.Replied.{moved_busy, moved_fault, moved_more}
 use Rattle.merge_client.proofs.Shards.{shard_after}
 use Rattle.merge_client.proofs.Sound.{kept_storing}
 use Rattle.merge_client.proofs.Going.{Asks, asks_of, closes, merges, none_left, opens, renews}
 use Rattle.merge_client.proofs.FewCalls.{few}
+
+-- ---- preparing
+
+prepares_counts : (own : List Answered) (old new : Compactor) → Prepares old new → Counts own old → Counts own new
+prepares_counts own old new h counts = by (how old new h)
+  where
+    by : How old new → Counts own new
+    by (was_read q is e) = subst (Counts own) (sym e) counts
+    by (was_tried s none is p e) = subst (Counts own) (sym e) counts
+    by (was_drafted p d s none is draft q e) = subst (Counts own) (sym e) counts
 
 -- ---- a reply
 
@@ -90,7 +100,7 @@ after c new reply poll (m, shard) = go c.reading.asked m
       same = named (record c { storing = s }) refl refl refl (same c.storing s reply tried moves).shard;
       is = now;
     }
-    go (Some q) (w, p, moves, poll_is, now) = record {
+    go (Some q) (w, p, moves, (poll_is, now)) = record {
       with = taken_back (reading_on (noted c) (left_fit (misfit (noted c) w) w)) (told_fit (misfit (noted c) w) p);
       same = back (left_fit (misfit (noted c) w) w) (told_fit (misfit (noted c) w) p) now;
       is = now;
@@ -138,7 +148,7 @@ counted_more c new reply poll (m, shard) = go c.reading.asked m
     go : (o : Option Due) → MovesBy o c reply new poll → new.storing.trying.calls ≡ trying.more c.storing.trying.calls
     go None (s, tried, asked, moves, asked_is, poll_is, now) = after_is (record c { storing = s }) now
         ∙ (same c.storing s reply tried moves).calls
-    go (Some q) (w, p, moves, poll_is, now) =
+    go (Some q) (w, p, moves, (poll_is, now)) =
         after_is (taken_back (reading_on (noted c) (left_fit (misfit (noted c) w) w)) (told_fit (misfit (noted c) w) p)) now
         ∙ back (left_fit (misfit (noted c) w) w) (told_fit (misfit (noted c) w) p)
 

@@ -55,7 +55,7 @@ use Rattle.merge_client.specs.declared.dues.Due.{Due}
 use Rattle.merge_client.specs.Fitting.{bound_at}
 use Rattle.merge_client.specs.Following.{Counts, Follows}
 use Rattle.merge_client.specs.Merging.{IsOpen, IsReady, Moves, MovesBy, Wants, WantsBy, after_poll, call_of, change_poll}
-use Rattle.merge_client.specs.Merging.{merge_poll, merge_refused, own_member, shard_of, verdict}
+use Rattle.merge_client.specs.Merging.{merge_poll, merge_refused, noted, own_member, shard_of, verdict}
 use Rattle.merge_client.proofs.Counts.{counts_gained}
 use Rattle.merge_client.proofs.Fits.{counts_on, counts_poll, counts_wanted, fit_moves}
 use Rattle.merge_client.proofs.Noted.{noted_follows, noted_ready}

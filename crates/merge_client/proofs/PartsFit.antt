@@ -1,11 +1,12 @@
 -- Over a lawful history each part that a compactor gets fits its batch, and it counts the rows of the left one. Entries go newest first.
-use Rattle.std.proofs.Common.{◌≡◌, ℕ, suc, ◌+◌, ◌-◌, ◌<◌, ◌≤◌, Bool, true, false, ◌&&◌, Option, Some, None, Ok, List, [], ◌∷◌, ◌++◌}
+use Rattle.std.proofs.Common.{◌≡◌, ℕ, suc, ◌+◌, ◌-◌, ◌<◌, ◌≤◌, Bool, true, false, ◌&&◌, Option, Some, None, Result, Ok, List, [], ◌∷◌, ◌++◌}
 use Rattle.std.proofs.Common.{length, take, drop, inl, inr, refl, sym, ap, subst, ◌∙◌, arith}
 use Rattle.std.specs.Prelude.{IfSome, IsSomeAnd, nat_le, nat_lt}
 use Rattle.std.specs.List.{AllByRecursion}
 use Rattle.std.proofs.lemmas.Bool.Decides.{nat_tests}
 use Rattle.std.proofs.lemmas.List.{length-append}
 use Rattle.update_core.specs.declared.updates.Update.{Update}
+use Rattle.part_codec.specs.declared.part_faults.PartFault.{PartFault}
 use Rattle.part_codec.specs.Reading.{all_of}
 use Rattle.store_core.specs.declared.shards.ShardId.{ShardId}
 use Rattle.store_core.specs.declared.part_keys.PartKey.{PartKey}
@@ -285,7 +286,7 @@ module _ (client : ℕ) (c : Compactor) (start : Stored) (list : List Update) (e
         ∙ sym (front_more Then old.place old.keys key at) ∙ ap (λ (ks : List PartKey). rows_under Then (take (suc old.place) ks))
         there.pair.keys_are
       where
-        ok_same : (x y : List Update) → ◌≡◌ (Ok x) (Ok y) → x ≡ y
+        ok_same : (x y : List Update) → ◌≡◌ {A = Result (List Update) PartFault} (Ok x) (Ok y) → x ≡ y
         ok_same x y h = cc
 
     part_fits : is_unfit_at bound_there noted_left old.place (length old.rows) g ≡ false

@@ -51,7 +51,7 @@ use Rattle.token_machine.proofs.Ways.{prepares_same}
 use Rattle.merge_client.specs.declared.compactors.Compactor.{Compactor}
 use Rattle.merge_client.specs.declared.dues.Due.{Due}
 use Rattle.merge_client.specs.declared.pairs.Pair.{Pair}
-use Rattle.merge_client.specs.Following.{Counts, Follows, FollowsAsked, FollowsDraft, FollowsGot, FollowsMerge, IsPairOf}
+use Rattle.merge_client.specs.Following.{Follows, FollowsAsked, FollowsDraft, FollowsGot, FollowsMerge, IsPairOf}
 use Rattle.merge_client.specs.Following.{Tries, WasTried}
 use Rattle.merge_client.specs.Machining.{kept}
 use Rattle.merge_client.specs.Merging.{Prepares, PreparesBy, PreparesPair, own_member, owner, shard_of}
@@ -118,14 +118,6 @@ prepares_reading old new h = by (how old new h)
     by (reads q is e) = ap (λ (c : Compactor). c.reading) e
     by (tries s none is p e) = ap (λ (c : Compactor). c.reading) e
     by (drafts p d s none is draft q e) = ap (λ (c : Compactor). c.reading) e
-
-pub prepares_counts : (own : List Answered) (old new : Compactor) → Prepares old new → Counts own old → Counts own new
-prepares_counts own old new h counts = by (how old new h)
-  where
-    by : How old new → Counts own new
-    by (reads q is e) = subst (Counts own) (sym e) counts
-    by (tries s none is p e) = subst (Counts own) (sym e) counts
-    by (drafts p d s none is draft q e) = subst (Counts own) (sym e) counts
 
 -- ---- calls that were Scans and Gets
 

@@ -95,7 +95,7 @@ module _ (client : ℕ) (c : Compactor) (start : Stored) (list : List Update) (e
       go (read from) same = subst (λ (y : Due). FromParts finding client r.course y start now Paid (founds.Due pair)) same from
 
   pub read_on : (new : Compactor) (poll : Poll MergeAnswer) → MovesFit c here new poll → Follows client new start now
-  read_on new poll (r, p, moves, poll_is, new_is) =
+  read_on new poll (r, p, moves, (poll_is, new_is)) =
       subst (λ (z : Compactor). Follows client z start now) (sym new_is)
       (subst (λ (x : Poll MergeAnswer). Follows client (after_poll (taken_back (reading_on c r) p) x) start now) (sym poll_is) (by p refl))
     where

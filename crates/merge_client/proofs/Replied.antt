@@ -145,7 +145,7 @@ moved_fits old new r poll ready moves = go old.reading.asked moves
       storing = s;
     }) r asked tried
         (λ e. fault_failed old.storing s r (subst (λ (t : Tried). storing.Moves old.storing r s t) e m)))
-    go (Some q) (w, p, m, poll_is, new_is) = subst (Fits r) (sym poll_is)
+    go (Some q) (w, p, m, (poll_is, new_is)) = subst (Fits r) (sym poll_is)
         (told_fits r p (misfit (noted old) w) (read_fits old.reading w r p ready.sound.reading m))
 
 pub moved_busy : (old new : Compactor) (r : Reply) → IsReady old → ¬ Moves old r new polls.Busy
@@ -173,5 +173,5 @@ moved_more old new r moves failed = go old.reading.asked (subst (λ (q : Reply).
     go None (s, tried, asked, m, asked_is, poll_is, new_is) =
         let bad : polls.More ≡ polls.Fault = poll_is ∙ ap (λ (k : Tried). verdict (record old { storing = s }) asked k)
         (failed_fault old.storing s tried m) ∙ fault_poll (record old { storing = s }) asked in cc
-    go (Some q) (w, p, m, poll_is, new_is) =
+    go (Some q) (w, p, m, (poll_is, new_is)) =
         no_more (misfit (noted old) w) p (read_failed old.reading w p m) poll_is

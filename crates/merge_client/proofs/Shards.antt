@@ -27,7 +27,7 @@ moved_shard old new reply poll ready moves = go old.reading.asked refl moves
     go : (o : Option Due) → old.reading.asked ≡ o → MovesBy o old reply new poll → shard_of new ≡ shard_of old
     go None none (s, tried, asked, m, asked_is, poll_is, now) =
         ap (λ (c : Compactor). shard_of c) now ∙ shard_after (record old { storing = s }) poll ∙ (same old.storing s reply tried m).shard
-    go (Some q) some (r, p, m, poll_is, now) =
+    go (Some q) some (r, p, m, (poll_is, now)) =
         ap (λ (c : Compactor). shard_of c) now
         ∙ shard_after (taken_back (reading_on (noted old) (left_fit (misfit (noted old) r) r)) (told_fit (misfit (noted old) r) p)) poll
         ∙ each (misfit (noted old) r)

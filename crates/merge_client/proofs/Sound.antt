@@ -235,7 +235,7 @@ on_sound old q r ready ask sound g asked shard =
 read_sound : (old new : Compactor) (q : Due) (reply : Reply) (poll : Poll MergeAnswer) → IsReady old →
     storing.IsSound new.storing →
     readings.IsSound finding new.reading → old.reading.asked ≡ Some q → MovesFit old reply new poll → IsSound new
-read_sound old new q reply poll ready sound g ask (r, read, moves, poll_is, new_is) = subst IsSound (sym now) (by read refl)
+read_sound old new q reply poll ready sound g ask (r, read, moves, (poll_is, new_is)) = subst IsSound (sym now) (by read refl)
   where
     at : Poll Found → Compactor
     at p = after_poll (taken_back (reading_on old r) p) (read_poll p)

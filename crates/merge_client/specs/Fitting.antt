@@ -1,5 +1,5 @@
 -- What a part that was got says against its batch.
-use Rattle.std.specs.Prelude.{ℕ, Bool, false, true, ◌&&◌, if◌then◌else◌, nat_le, nat_lt, ◌-◌, Option, Some, None, List, [], ◌∷◌, length, drop}
+use Rattle.std.specs.Prelude.{ℕ, Bool, false, true, if◌then◌else◌, nat_le, nat_lt, ◌-◌, Option, Some, None, List, [], ◌∷◌, length, drop}
 use Rattle.std.specs.List.{slice_get}
 use Rattle.update_core.specs.declared.updates.Update.{Update}
 use Rattle.spine_core.specs.declared.batches.Batch.{Batch}
@@ -60,10 +60,13 @@ is_unfit_at b left_rows place count g =
     if nat_lt place b.parts then is_unfit b.left (length g.rows) (drop count g.rows)
     else is_unfit b.right (length g.rows - left_rows) (drop count g.rows)
 
--- its key, where it is got
+-- its key
+abbrev pub unfit_key : PairBound → ℕ → ℕ → ℕ → Getting → Option PartKey
+unfit_key b left_rows place count g = if is_unfit_at b left_rows place count g then slice_get g.keys place else None
+
+-- and where it is got
 abbrev pub misfit_of : PairBound → ℕ → ℕ → ℕ → Getting → Option PartKey
-misfit_of b left_rows place count g =
-    if nat_lt place g.place && is_unfit_at b left_rows place count g then slice_get g.keys place else None
+misfit_of b left_rows place count g = if nat_lt place g.place then unfit_key b left_rows place count g else None
 
 abbrev pub misfit_by : Option PairBound → ℕ → ℕ → ℕ → Getting → Option PartKey
 misfit_by None left_rows place count g = None

@@ -1,7 +1,8 @@
 // What the pair that is due says of its rows.
 ghost use Rattle.std.specs.Prelude.{◌≡◌};
+ghost use Rattle.std.specs.List.{slice_get};
 ghost use Rattle.std.specs.Option.{option_copied};
-ghost use Rattle.merge_client.specs.Fitting.{bound_by, bound_of, is_unfit_at, misfit_of, noted_rows};
+ghost use Rattle.merge_client.specs.Fitting.{bound_by, bound_of, is_unfit_at, misfit_of, noted_rows, unfit_key};
 ghost use Rattle.merge_client.specs.Finding.{places_in};
 
 use crate::dues::{batch_at, due_places};
@@ -43,8 +44,24 @@ impl PairBound {
     ) -> Option<PartKey>
         ensures { result ≡ misfit_of self left_rows place count getting.now }
     {
-        if place < getting.place && self.is_unfit_at(left_rows, place, count, getting) {
-            return getting.keys.as_slice().get(place).copied();
+        if place < getting.place {
+            return self.unfit_key(left_rows, place, count, getting);
+        }
+        None
+    }
+
+    // Its key, where its batch speaks against it.
+    fn unfit_key(
+        self,
+        left_rows: usize,
+        place: usize,
+        count: usize,
+        getting: &Getting,
+    ) -> Option<PartKey>
+        ensures { result ≡ unfit_key self left_rows place count getting.now }
+    {
+        if self.is_unfit_at(left_rows, place, count, getting) {
+            return key_at(getting, place);
         }
         None
     }
@@ -61,6 +78,13 @@ impl PairBound {
         self.right
             .is_unfit(rows.len().saturating_sub(left_rows), part)
     }
+}
+
+// The key of the part at this place.
+fn key_at(getting: &Getting, place: usize) -> Option<PartKey>
+    ensures { result ≡ slice_get getting.now.keys place }
+{
+    getting.keys.as_slice().get(place).copied()
 }
 
 /// What the pair that is due in this state says.
