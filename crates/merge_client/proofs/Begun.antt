@@ -22,8 +22,9 @@ use Rattle.token_machine.specs.Storings.{begun, no_parts}
 use Rattle.token_machine.proofs.Members.{joined_owns}
 use Rattle.merge_client.specs.declared.compactors.Compactor.{Compactor}
 use Rattle.merge_client.specs.Beginning.{Changing, Merging}
-use Rattle.merge_client.specs.Following.{Follows, FollowsAsked, FollowsMerge, FollowsWhere, Tries}
+use Rattle.merge_client.specs.Following.{Counts, Follows, FollowsAll, FollowsAsked, FollowsMerge, FollowsWhere, Tries}
 use Rattle.merge_client.specs.Merging.{opened, shard_of, unknown}
+use Rattle.merge_client.proofs.Counts.{counts_past}
 use Rattle.merge_client.proofs.Following.{follows_past}
 
 opened_on : (client : ℕ) (shard : ShardId) (now lease : ℕ) (start : Stored) (es : List Entry) →
@@ -101,38 +102,58 @@ changing_on client old new asked step start es idle acts told (m, named, is) f =
 
 pub opened_where : (client : ℕ) (front : Option History) (shard : ShardId) (now lease : ℕ) →
     FollowsWhere client front (opened shard now lease)
-opened_where client front shard now lease = everywhere shard front (λ start es list. Follows client (opened shard now lease) start es)
-    (λ start es list. opened_on client shard now lease start es)
+opened_where client front shard now lease = everywhere shard front (λ start es list. FollowsAll client (opened shard now lease) start es)
+    (λ start es list. record { follows = opened_on client shard now lease start es; counts = tt })
 
 with_shard : (client : ℕ) (front : Option History) (old new : Compactor) → shard_of new ≡ shard_of old →
-    ((start : Stored) (es : List Entry) → Follows client old start es → Follows client new start es) →
+    ((start : Stored) (es : List Entry) → FollowsAll client old start es → FollowsAll client new start es) →
     FollowsWhere client front old → FollowsWhere client front new
 with_shard client front old new same h f =
-    subst (λ (d : ShardId). WhereLawful d front (Backwards (λ start es list. Follows client new start es))) (sym same)
-    (there_too (shard_of old) front (λ start es list. Follows client old start es) (λ start es list. Follows client new start es)
+    subst (λ (d : ShardId). WhereLawful d front (Backwards (λ start es list. FollowsAll client new start es))) (sym same)
+    (there_too (shard_of old) front (λ start es list. FollowsAll client old start es) (λ start es list. FollowsAll client new start es)
     (λ start es list. h start es) f)
+
+-- nothing is got yet
+merging_counts : (own : List Answered) (old new : Compactor) → Merging old new → Counts own new
+merging_counts own old new (m, named, is) = subst (Counts own) (sym is) tt
 
 pub merging_where : (client : ℕ) (front : Option History) (old new : Compactor) → Merging old new →
     FollowsWhere client front old → FollowsWhere client front new
 merging_where client front old new b = with_shard client front old new (ap (λ (c : Compactor). shard_of c) b.2)
-    (λ start es. merging_on client old new start es b)
+    (λ start es f. record {
+      follows = merging_on client old new start es b f.follows;
+      counts = merging_counts (mine_back start es client) old new b;
+    })
+
+changing_counts : (own : List Answered) (old new : Compactor) (asked : Asked) (step : ℕ → Transition) → Changing old asked step new →
+    Counts own old → Counts own new
+changing_counts own old new asked step (m, named, is) h = subst (Counts own) (sym is) h
 
 pub renewing_where : (client now : ℕ) (front : Option History) (old new : Compactor) → old.asked ≡ None →
     Changing old (asks.RenewCompactor now) (λ member. Renew member now) new → FollowsWhere client front old →
     FollowsWhere client front new
 renewing_where client now front old new idle b = with_shard client front old new (ap (λ (c : Compactor). shard_of c) b.2)
-    (λ start es. changing_on client old new (asks.RenewCompactor now) (λ m. Renew m now) start es idle (λ m. refl)
-    (λ c m named step keys pair. subst (λ (o : Option ℕ). IsSomeAnd o (λ n. Tries c (Renew n now))) (sym named)
-    (record { step = step; no_keys = keys; undrafted = pair })) b)
+    (λ start es f. record {
+      follows = changing_on client old new (asks.RenewCompactor now) (λ m. Renew m now) start es idle (λ m. refl)
+          (λ c m named step keys pair. subst (λ (o : Option ℕ). IsSomeAnd o (λ n. Tries c (Renew n now))) (sym named)
+          (record { step = step; no_keys = keys; undrafted = pair })) b f.follows;
+      counts = changing_counts (mine_back start es client) old new (asks.RenewCompactor now) (λ m. Renew m now) b f.counts;
+    })
 
 pub closing_where : (client : ℕ) (front : Option History) (old new : Compactor) → old.asked ≡ None →
     Changing old asks.CloseCompactor (λ member. Leave member) new → FollowsWhere client front old → FollowsWhere client front new
 closing_where client front old new idle b = with_shard client front old new (ap (λ (c : Compactor). shard_of c) b.2)
-    (λ start es. changing_on client old new asks.CloseCompactor (λ m. Leave m) start es idle (λ m. refl)
-    (λ c m named step keys pair. subst (λ (o : Option ℕ). IsSomeAnd o (λ n. Tries c (Leave n))) (sym named)
-    (record { step = step; no_keys = keys; undrafted = pair })) b)
+    (λ start es f. record {
+      follows = changing_on client old new asks.CloseCompactor (λ m. Leave m) start es idle (λ m. refl)
+          (λ c m named step keys pair. subst (λ (o : Option ℕ). IsSomeAnd o (λ n. Tries c (Leave n))) (sym named)
+          (record { step = step; no_keys = keys; undrafted = pair })) b f.follows;
+      counts = changing_counts (mine_back start es client) old new asks.CloseCompactor (λ m. Leave m) b f.counts;
+    })
 
 pub others_where : (client : ℕ) (front now : Option History) (c : Compactor) → FollowsWhere client front c →
     GrowsByOthers client front now → FollowsWhere client now c
-others_where client front now c = past_others (shard_of c) client front now (λ start es list. Follows client c start es)
-    (λ start others es list of f. follows_past client start others es of c f)
+others_where client front now c = past_others (shard_of c) client front now (λ start es list. FollowsAll client c start es)
+    (λ start others es list of f. record {
+      follows = follows_past client start others es of c f.follows;
+      counts = counts_past client start others es of c f.counts;
+    })

@@ -45,15 +45,17 @@ use Rattle.merge_client.specs.declared.founds.Found.{Found}
 use Rattle.merge_client.specs.declared.founds.Found.TheVariants as founds
 use Rattle.merge_client.specs.declared.pairs.Pair.{Pair}
 use Rattle.merge_client.specs.Finding.{finding}
-use Rattle.merge_client.specs.Following.{Follows}
+use Rattle.merge_client.specs.Following.{Follows, FollowsAll}
 use Rattle.merge_client.specs.Machining.{machine}
-use Rattle.merge_client.specs.Merging.{IsReady, Moves, MovesAfterRead, MovesBy, Prepares, after_poll, call_of, given_back}
-use Rattle.merge_client.specs.Merging.{read_poll, reading_on, shard_of, taken_back, verdict}
+use Rattle.merge_client.specs.Merging.{IsReady, Moves, MovesBy, Prepares, after_poll, call_of, given_back}
+use Rattle.merge_client.specs.Merging.{noted, read_poll, reading_on, shard_of, taken_back, verdict}
 use Rattle.merge_client.specs.Polling.{CostAt, CostBy, CostOver, OverBy, base_of}
 use Rattle.merge_client.proofs.Asking.{read_keeps}
 use Rattle.merge_client.proofs.DuePairs.{found_so}
 use Rattle.merge_client.proofs.Preparing.{How, drafts, how, reads, tries as tries_on}
 use Rattle.merge_client.proofs.ReadOn.{due_from}
+use Rattle.merge_client.proofs.Fits.{fit_moves}
+use Rattle.merge_client.proofs.Noted.{MovesFit, noted_follows, noted_ready}
 use Rattle.merge_client.proofs.Reading.{Paid, member_of_it, parts_same, read_asking, read_called}
 use Rattle.merge_client.proofs.Going.{Asks, IsGoing, asks_of, closes, going, merges, opens, renews}
 use Rattle.merge_client.proofs.Trying.{call}
@@ -167,7 +169,7 @@ module _ (base client : ℕ) (c : Compactor) (list : List Update) (start : Store
         by tries.Spent g h = h
         by (tries.Damaged damage) g h = h
 
-    verdict_cost : (p : Poll MergeAnswer) → verdict v asked tried ≡ p → Poll_of (after_poll v p) p
+    pub verdict_cost : (p : Poll MergeAnswer) → verdict v asked tried ≡ p → Poll_of (after_poll v p) p
     verdict_cost polls.Busy is = goes (subst GoesOn (sym is) tt)
     verdict_cost polls.More is = goes (subst GoesOn (sym is) tt)
     verdict_cost polls.Fault is = goes (subst GoesOn (sym is) tt)
@@ -185,8 +187,8 @@ module _ (base client : ℕ) (c : Compactor) (list : List Update) (start : Store
     read_was lt = subst (λ (o : Option Due). CostBy o c.pair base client c start es) some
         (at (subst (λ (n : ℕ). n < most) calls_same lt))
 
-    read_cost : (new : Compactor) (poll : Poll MergeAnswer) → MovesAfterRead c here new poll → Poll_of new poll
-    read_cost new poll (r, p, moves, poll_is, new_is) =
+    pub read_cost : (new : Compactor) (poll : Poll MergeAnswer) → MovesFit c here new poll → Poll_of new poll
+    read_cost new poll (r, p, moves, (poll_is, new_is)) =
         subst (λ (z : Compactor). Poll_of z poll) (sym new_is)
         (subst (λ (x : Poll MergeAnswer). Poll_of (after_poll (taken_back (reading_on c r) p) x) x) (sym poll_is)
         (by p refl (read_keeps.cost base client c.reading c.reading r e.call p list start e others es (omega arith) refl
@@ -270,12 +272,36 @@ module _ (base client : ℕ) (c : Compactor) (list : List Update) (start : Store
         by (polls.Done (founds.Gone version)) is h = over (after_poll (taken_back (reading_on c r) (polls.Done (founds.Gone version)))
             (read_poll (polls.Done (founds.Gone version)))) refl refl h
 
-  -- a poll keeps the bound
-  pub cost_ready : (new : Compactor) (poll : Poll MergeAnswer) → (c.reading.asked ≡ None → IsPrepared c.storing.trying.next) →
-      Moves c here new poll → Poll_of new poll
-  cost_ready new poll prepared moves = go c.reading.asked refl moves
-    where
-      go : (o : Option Due) → c.reading.asked ≡ o → MovesBy o c here new poll → Poll_of new poll
-      go None none (s, tried, asked, m, busy, poll_is, new_is) = subst (λ (z : Compactor). Poll_of z poll) (sym new_is)
-          (verdict_cost none (prepared none) s tried asked m busy poll (sym poll_is))
-      go (Some q) is m = read_cost q is new poll m
+-- what was counted before changes no bound
+unnoted : (base client : ℕ) (c new : Compactor) (poll : Poll MergeAnswer) (start : Stored) (es : List Entry) (list : List Update) →
+    CostPoll base client (noted c) new poll start es list → CostPoll base client c new poll start es list
+unnoted base client c new polls.Busy start es list h = h
+unnoted base client c new polls.More start es list h = h
+unnoted base client c new polls.Fault start es list h = h
+unnoted base client c new polls.Spent start es list h = h
+unnoted base client c new (polls.Damaged damage) start es list h = h
+unnoted base client c new (polls.Done answer) start es list h = h
+
+-- a poll keeps the bound
+pub cost_ready : (base client : ℕ) (c : Compactor) (list : List Update) (start : Stored) (e : Entry) (others es : List Entry) →
+    3 ≤ base → IsReady c → e.client ≡ client → call_of c ≡ Some e.call → OfOthers client others → StandsFor start (shard_of c) list →
+    LawfulBack start (e ∷ (others ++ es)) → FollowsAll client c start es → CostAt base client c start es list → (new : Compactor)
+    (poll : Poll MergeAnswer) → (c.reading.asked ≡ None → IsPrepared c.storing.trying.next) →
+    Moves c (reply (replay_back start (others ++ es)) e) new poll → CostPoll base client c new poll start (e ∷ (others ++ es)) list
+cost_ready base client c list start e others es three ready own call_is of st lawful f at new poll prepared moves =
+    go c.reading.asked refl moves
+  where
+    noted_cost : (q : Due) → c.reading.asked ≡ Some q → CostAt base client (noted c) start es list
+    noted_cost q is lt = subst (λ (o : Option Due). CostBy o c.pair base client (noted c) start es) (sym is)
+        (subst (λ (o : Option Due). CostBy o c.pair base client c start es) is (at lt))
+
+    go : (o : Option Due) → c.reading.asked ≡ o → MovesBy o c (reply (replay_back start (others ++ es)) e) new poll →
+        CostPoll base client c new poll start (e ∷ (others ++ es)) list
+    go None none (s, tried, asked, m, busy, poll_is, new_is) =
+        subst (λ (z : Compactor). CostPoll base client c z poll start (e ∷ (others ++ es)) list) (sym new_is)
+        (verdict_cost base client c list start e others es three ready own call_is of st lawful f.follows at none (prepared none) s tried
+        asked m busy poll (sym poll_is))
+    go (Some q) is m = unnoted base client c new poll start (e ∷ (others ++ es)) list
+        (read_cost base client (noted c) list start e others es three (noted_ready c ready) own call_is of st lawful
+        (noted_follows client c start es f.follows) (noted_cost q is) q is new poll
+        (fit_moves client c start list e others es ready own call_is of st lawful f.follows f.counts q is new poll m))

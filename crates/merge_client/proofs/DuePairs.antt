@@ -55,7 +55,7 @@ some_same : {A : Type 0} (a b : A) → Some a ≡ Some b → a ≡ b
 some_same a b h = cc
 
 -- two at neighbouring places
-two_there : (l r : Batch) (bs : List Batch) (i : ℕ) → slice_get bs i ≡ Some l → slice_get bs (suc i) ≡ Some r →
+pub two_there : (l r : Batch) (bs : List Batch) (i : ℕ) → slice_get bs i ≡ Some l → slice_get bs (suc i) ≡ Some r →
     (before : List Batch) × (behind : List Batch) × (bs ≡ before ++ l ∷ r ∷ behind)
 two_there l r [] i h k = absurd (let bad : None ≡ Some l = h in cc)
 two_there l r (b ∷ []) zero h k = absurd (let bad : None ≡ Some r = k in cc)

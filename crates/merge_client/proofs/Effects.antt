@@ -3,6 +3,7 @@ use Rattle.std.proofs.Common.{◌≡◌, Option, Some, None, inl, inr, refl, sym
 use Rattle.std.specs.Prelude.{IsSome, IsSomeAnd}
 use Rattle.store_core.specs.declared.shards.ShardId.{ShardId}
 use Rattle.store_core.specs.declared.calls.Call.{Call}
+use Rattle.store_core.specs.declared.part_keys.PartKey.{PartKey}
 use Rattle.store_core.specs.declared.replies.Reply.{Reply}
 use Rattle.state_core.specs.declared.refusals.Refusal.{Refusal}
 use Rattle.state_core.specs.declared.refusals.Refusal.TheVariants as refusals
@@ -36,7 +37,7 @@ use Rattle.merge_client.specs.declared.founds.Found.{Found}
 use Rattle.merge_client.specs.declared.founds.Found.TheVariants as founds
 use Rattle.merge_client.specs.Finding.{finding}
 use Rattle.merge_client.specs.Merging.{IsReady, Moves, MovesBy, call_by, call_of, change_poll, gone_answer}
-use Rattle.merge_client.specs.Merging.{in_answer, merge_poll, merge_refused, own_member, read_poll, shard_of, verdict}
+use Rattle.merge_client.specs.Merging.{in_answer, merge_poll, merge_refused, misfit, noted, own_member, read_poll, shard_of, told_fit, verdict}
 use Rattle.merge_client.specs.Polling.{Effect}
 use Rattle.merge_client.proofs.Asking.{read_keeps}
 
@@ -138,8 +139,13 @@ effect_of old new call reply poll sound call_is moves = go old.reading.asked ref
         Effect (shard_of old) call reply poll
     go None none is (s, tried, asked, m, asked_is, poll_is, new_is) = subst (Effect (shard_of old) call reply) (sym poll_is)
         (verdict_did old s call reply tried sound is m asked)
-    go (Some q) some is (r, read, m, poll_is, new_is) =
+    go (Some q) some is (r, read, m, (poll_is, new_is)) =
         let did = read_keeps.effect old.reading r call reply read sound.sound.reading
         (subst (λ (o : Option Due). IsSome o) (sym some) refl) is m in
-        subst (Effect (shard_of old) call reply) (sym poll_is)
-        (read_did (shard_of old) call reply old.reading.asked (IsShown old.reading.course.loader.shard call reply) read did.did)
+        subst (Effect (shard_of old) call reply) (sym poll_is) (told (misfit (noted old) r) read
+        (read_did (shard_of old) call reply old.reading.asked (IsShown old.reading.course.loader.shard call reply) read did.did))
+      where
+        told : (o : Option PartKey) (p : Poll Found) → Effect (shard_of old) call reply (read_poll p) →
+            Effect (shard_of old) call reply (read_poll (told_fit o p))
+        told None p h = h
+        told (Some key) p h = tt

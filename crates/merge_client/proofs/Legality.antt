@@ -49,7 +49,7 @@ use Rattle.merge_client.specs.declared.dues.Due.{Due}
 use Rattle.merge_client.specs.declared.founds.Found.{Found}
 use Rattle.merge_client.specs.declared.founds.Found.TheVariants as founds
 use Rattle.merge_client.specs.Finding.{finding}
-use Rattle.merge_client.specs.Following.{Follows}
+use Rattle.merge_client.specs.Following.{Counts, Follows}
 use Rattle.merge_client.specs.Machining.{command_in, kept, machine}
 use Rattle.merge_client.specs.Merging.{IsReady, Moves, MovesBy, call_of, change_poll}
 use Rattle.merge_client.specs.Merging.{own_member, read_poll, shard_of, verdict}
@@ -59,6 +59,7 @@ use Rattle.merge_client.proofs.Reading.{lent, member_of_it, read_asking, read_ca
 use Rattle.merge_client.proofs.Going.{Asks, asks_of, closes, merges, opens, renews}
 use Rattle.merge_client.proofs.Trying.{call}
 use Rattle.merge_client.proofs.LegalPolls as polled
+use Rattle.merge_client.proofs.Fits.{fit_reads}
 use Rattle.merge_client.proofs.MergeLegality.{merge_legal}
 
 module _ (client : ℕ) (c new : Compactor) (start : Stored) (list : List Update) (e : Entry) (others es : List Entry)
@@ -294,11 +295,13 @@ module _ (client : ℕ) (c new : Compactor) (start : Stored) (list : List Update
 
   -- ---- any reply
 
-  pub legal_step : (poll : Poll MergeAnswer) → Moves c here new poll → Legal poll
-  legal_step poll moves = go c.reading.asked refl moves
+  pub legal_step : Counts (mine_back start es client) c → (poll : Poll MergeAnswer) → Moves c here new poll → Legal poll
+  legal_step counts poll moves = go c.reading.asked refl moves
     where
       go : (o : Option Due) → c.reading.asked ≡ o → MovesBy o c here new poll → Legal poll
       go None none (s, tried, asked, k, busy, poll_is, new_is) = subst Legal (sym poll_is)
           (try_legal none s tried k (more_is ∙ sym (same c.storing s here tried k).calls) asked busy
           (asks_of client c start es asked busy none ready.drafted f))
-      go (Some q) some (r, p, k, poll_is, new_is) = subst Legal (sym poll_is) (read_legal q some r p k)
+      go (Some q) some (r, p, k, h) =
+          let fit = fit_reads client c start list e others es ready own call_is of st lawful f counts q some r p k new poll h in
+          subst Legal (sym fit.0) (read_legal q some r p k)

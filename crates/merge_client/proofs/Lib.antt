@@ -1,13 +1,17 @@
 pub mod Asking
 pub mod Begun
+pub mod Below
+pub mod Counts
 pub mod Costs
 pub mod DuePairs
 pub mod DueParts
 pub mod Effects
 pub mod FewCalls
 pub mod Finding
+pub mod Fits
 pub mod Following
 pub mod Going
+pub mod GotRows
 pub mod LegalPolls
 pub mod Legality
 pub mod Light
@@ -15,6 +19,9 @@ pub mod Machining
 pub mod MergeLegality
 pub mod Moved
 pub mod Moving
+pub mod Noted
+pub mod PairThere
+pub mod PartsFit
 pub mod Preparing
 pub mod ReadLegality
 pub mod ReadOn

@@ -52,9 +52,13 @@ use Rattle.token_machine.proofs.Members.{token_owned}
 use Rattle.token_machine.proofs.Ways.{call_false, same, tried_way}
 use Rattle.merge_client.specs.declared.compactors.Compactor.{Compactor}
 use Rattle.merge_client.specs.declared.dues.Due.{Due}
-use Rattle.merge_client.specs.Following.{Follows}
+use Rattle.merge_client.specs.Fitting.{bound_at}
+use Rattle.merge_client.specs.Following.{Counts, Follows}
 use Rattle.merge_client.specs.Merging.{IsOpen, IsReady, Moves, MovesBy, Wants, WantsBy, after_poll, call_of, change_poll}
-use Rattle.merge_client.specs.Merging.{merge_poll, merge_refused, own_member, shard_of, verdict}
+use Rattle.merge_client.specs.Merging.{merge_poll, merge_refused, noted, own_member, shard_of, verdict}
+use Rattle.merge_client.proofs.Counts.{counts_gained}
+use Rattle.merge_client.proofs.Fits.{counts_on, counts_poll, counts_wanted, fit_moves}
+use Rattle.merge_client.proofs.Noted.{noted_follows, noted_ready}
 use Rattle.merge_client.proofs.ReadOn.{read_on, read_wants}
 use Rattle.merge_client.proofs.Going.{Asks, asks_of, closes, going, merges, opens, renews}
 use Rattle.merge_client.proofs.Trying.{call, no_later, over_same}
@@ -254,14 +258,16 @@ module _ (client : ℕ) (c : Compactor) (start : Stored) (list : List Update) (e
     verdict_on (polls.Done (answers.Expired version)) is = over None tt
     verdict_on (polls.Done other) is = same_over
 
-  pub moved_on : (new : Compactor) (poll : Poll MergeAnswer) → Moves c here new poll → Follows client new start now
-  moved_on new poll moves = go c.reading.asked refl moves
+  pub moved_on : Counts was c → (new : Compactor) (poll : Poll MergeAnswer) → Moves c here new poll → Follows client new start now
+  moved_on counts new poll moves = go c.reading.asked refl moves
     where
       go : (o : Option Due) → c.reading.asked ≡ o → MovesBy o c here new poll → Follows client new start now
       go None none (s, tried, asked, m, busy, poll_is, new_is) =
           subst (λ (z : Compactor). Follows client z start now) (sym new_is)
           (verdict_on none s tried asked m busy poll (sym poll_is))
-      go (Some q) some m = read_on client c start list e others es ready own call_is of st lawful f q some new poll m
+      go (Some q) some m = read_on client (noted c) start list e others es (noted_ready c ready) own call_is of st lawful
+          (noted_follows client c start es f) q some new poll
+          (fit_moves client c start list e others es ready own call_is of st lawful f counts q some new poll m)
 
   -- after want of memory
   pub wants_on : IsOpen c → (new : Compactor) → Wants c new → Follows client new start now
@@ -273,4 +279,25 @@ module _ (client : ℕ) (c : Compactor) (start : Stored) (list : List Update) (e
           subst (λ (z : Compactor). Follows client z start now) (sym is)
           (try_wants client c start list e others es ready own call_is of st lawful f none asked
           (asks_of client c start es asked busy none ready.drafted f) busy idle)
-      go (Some q) some is = read_wants client c start list e others es ready own call_is of st lawful f q some new is
+      go (Some q) some is = read_wants client (noted c) start list e others es (noted_ready c ready) own call_is of st lawful
+          (noted_follows client c start es f) q some new is
+
+  -- ---- what is counted
+
+  pub moved_counts : Counts was c → (new : Compactor) (poll : Poll MergeAnswer) → Moves c here new poll → Counts Mine new
+  moved_counts counts new poll moves = go c.reading.asked refl moves
+    where
+      go : (o : Option Due) → c.reading.asked ≡ o → MovesBy o c here new poll → Counts Mine new
+      go None none (s, tried, asked, m, busy, poll_is, new_is) = subst (Counts Mine) (sym new_is)
+          (counts_poll Mine (record c { storing = s }) poll (counts_gained client start e others es own of c.left_rows
+          c.reading.course.getting (bound_at c.reading.course c.reading.course.stage) counts))
+      go (Some q) some m = counts_on client c start list e others es ready own call_is of st lawful f counts q some new poll m
+
+  pub wants_counts : Counts was c → (new : Compactor) → Wants c new → Counts Mine new
+  wants_counts counts new w = go c.reading.asked refl w
+    where
+      go : (o : Option Due) → c.reading.asked ≡ o → WantsBy o c new → Counts Mine new
+      go None none (idle, is) = subst (Counts Mine) (sym is) (counts_gained client start e others es own of c.left_rows
+          c.reading.course.getting (bound_at c.reading.course c.reading.course.stage) counts)
+      go (Some q) some is = subst (Counts Mine) (sym is)
+          (counts_wanted client c start list e others es ready own call_is of st lawful f counts q some)

@@ -35,9 +35,10 @@ use Rattle.merge_client.specs.declared.founds.Found.TheVariants as founds
 use Rattle.merge_client.specs.declared.pairs.Pair.{Pair}
 use Rattle.merge_client.specs.Finding.{finding}
 use Rattle.merge_client.specs.Following.{Follows, FollowsRead}
-use Rattle.merge_client.specs.Merging.{IsLent, IsReady, MovesAfterRead, after_poll, call_of, given_back}
+use Rattle.merge_client.specs.Merging.{IsLent, IsReady, after_poll, call_of, given_back}
 use Rattle.merge_client.specs.Merging.{read_poll, reading_on, shard_of, taken_back}
 use Rattle.merge_client.proofs.Asking.{is_question, read_keeps}
+use Rattle.merge_client.proofs.Noted.{MovesFit}
 use Rattle.merge_client.proofs.Reading.{lent, member_of_it, never_told, read_asking, read_called, read_due, read_goes, read_is, read_over}
 
 module _ (client : ℕ) (c : Compactor) (start : Stored) (list : List Update) (e : Entry) (others es : List Entry)
@@ -93,8 +94,8 @@ module _ (client : ℕ) (c : Compactor) (start : Stored) (list : List Update) (e
       go (lapsed v h) same = absurd (let bad : founds.Due pair ≡ founds.Gone v = h in cc)
       go (read from) same = subst (λ (y : Due). FromParts finding client r.course y start now Paid (founds.Due pair)) same from
 
-  pub read_on : (new : Compactor) (poll : Poll MergeAnswer) → MovesAfterRead c here new poll → Follows client new start now
-  read_on new poll (r, p, moves, poll_is, new_is) =
+  pub read_on : (new : Compactor) (poll : Poll MergeAnswer) → MovesFit c here new poll → Follows client new start now
+  read_on new poll (r, p, moves, (poll_is, new_is)) =
       subst (λ (z : Compactor). Follows client z start now) (sym new_is)
       (subst (λ (x : Poll MergeAnswer). Follows client (after_poll (taken_back (reading_on c r) p) x) start now) (sym poll_is) (by p refl))
     where

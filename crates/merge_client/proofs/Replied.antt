@@ -1,6 +1,7 @@
 -- What a poll comes to by the reply to its call: never Busy, and Fault only where the call failed.
 use Rattle.std.proofs.Common.{◌≡◌, ◌≢◌, ◌==◌, ◌&&◌, ℕ, Option, Some, None, List, inl, inr, refl, sym, ap, subst, ◌∙◌}
 use Rattle.std.specs.Prelude.{⊤}
+use Rattle.store_core.specs.declared.part_keys.PartKey.{PartKey}
 use Rattle.store_core.specs.declared.replies.Reply.{Reply}
 use Rattle.store_core.specs.declared.replies.Reply.TheVariants as replies
 use Rattle.store_core.specs.declared.versions.Version.{Version}
@@ -10,6 +11,7 @@ use Rattle.state_core.proofs.ListLemmas.{bool_cases}
 use Rattle.history_core.specs.declared.asked.Asked.{Asked}
 use Rattle.history_core.specs.declared.asked.Asked.TheVariants as asks
 use Rattle.history_core.specs.declared.merge_answers.MergeAnswer.{MergeAnswer}
+use Rattle.load_core.specs.declared.damages.Damage.TheVariants as damages
 use Rattle.load_core.specs.declared.fetches.Fetched.{Fetched}
 use Rattle.load_core.specs.declared.polls.Poll.{Poll}
 use Rattle.load_core.specs.declared.polls.Poll.TheVariants as polls
@@ -31,7 +33,7 @@ use Rattle.merge_client.specs.declared.dues.Due.{Due}
 use Rattle.merge_client.specs.declared.founds.Found.{Found}
 use Rattle.merge_client.specs.declared.founds.Found.TheVariants as founds
 use Rattle.merge_client.specs.Finding.{finding}
-use Rattle.merge_client.specs.Merging.{IsReady, Moves, MovesBy, change_poll, merge_poll, merge_refused, own_member, read_poll, verdict}
+use Rattle.merge_client.specs.Merging.{IsReady, Moves, MovesBy, change_poll, merge_poll, merge_refused, misfit, noted, own_member, read_poll, told_fit, verdict}
 use Rattle.merge_client.proofs.Asking.{read_keeps}
 
 -- a poll that isn't Busy, and is Fault only after a call that failed
@@ -128,6 +130,11 @@ read_failed m new p moves = let x = read_so finding m new replies.Failed p moves
         of (spoilt b key fault r reads at is x) = absurd (no_bytes (Some b) r)
         of (heavy b part key r reads at weighs is x) = absurd (no_bytes (Some b) r)
 
+-- that a part doesn't fit is told after any reply
+told_fits : (r : Reply) (p : Poll Found) (o : Option PartKey) → Fits r (read_poll p) → Fits r (read_poll (told_fit o p))
+told_fits r p None h = h
+told_fits r p (Some key) h = tt
+
 -- ---- each reply
 
 moved_fits : (old new : Compactor) (r : Reply) (poll : Poll MergeAnswer) → IsReady old → Moves old r new poll → Fits r poll
@@ -138,7 +145,8 @@ moved_fits old new r poll ready moves = go old.reading.asked moves
       storing = s;
     }) r asked tried
         (λ e. fault_failed old.storing s r (subst (λ (t : Tried). storing.Moves old.storing r s t) e m)))
-    go (Some q) (w, p, m, poll_is, new_is) = subst (Fits r) (sym poll_is) (read_fits old.reading w r p ready.sound.reading m)
+    go (Some q) (w, p, m, (poll_is, new_is)) = subst (Fits r) (sym poll_is)
+        (told_fits r p (misfit (noted old) w) (read_fits old.reading w r p ready.sound.reading m))
 
 pub moved_busy : (old new : Compactor) (r : Reply) → IsReady old → ¬ Moves old r new polls.Busy
 moved_busy old new r ready moves = moved_fits old new r polls.Busy ready moves
@@ -153,6 +161,10 @@ fault_poll c other = refl
 more_poll : (p : Poll Found) → p ≡ polls.Fault → read_poll p ≡ polls.Fault
 more_poll p is = ap read_poll is
 
+no_more : (o : Option PartKey) (p : Poll Found) → p ≡ polls.Fault → ◌≢◌ {A = Poll MergeAnswer} polls.More (read_poll (told_fit o p))
+no_more None p is h = let bad : polls.More ≡ polls.Fault = h ∙ more_poll p is in cc
+no_more (Some key) p is h = let bad : polls.More ≡ polls.Damaged (damages.Weight key) = h in cc
+
 -- while a command goes on no call fails
 pub moved_more : (old new : Compactor) (r : Reply) → Moves old r new polls.More → r ≢ replies.Failed
 moved_more old new r moves failed = go old.reading.asked (subst (λ (q : Reply). Moves old q new polls.More) failed moves)
@@ -161,5 +173,5 @@ moved_more old new r moves failed = go old.reading.asked (subst (λ (q : Reply).
     go None (s, tried, asked, m, asked_is, poll_is, new_is) =
         let bad : polls.More ≡ polls.Fault = poll_is ∙ ap (λ (k : Tried). verdict (record old { storing = s }) asked k)
         (failed_fault old.storing s tried m) ∙ fault_poll (record old { storing = s }) asked in cc
-    go (Some q) (w, p, m, poll_is, new_is) =
-        let bad : polls.More ≡ polls.Fault = poll_is ∙ more_poll p (read_failed old.reading w p m) in cc
+    go (Some q) (w, p, m, (poll_is, new_is)) =
+        no_more (misfit (noted old) w) p (read_failed old.reading w p m) poll_is

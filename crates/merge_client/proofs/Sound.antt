@@ -1,11 +1,13 @@
 -- What a compactor holds besides any history stays so.
 use Rattle.std.proofs.Common.{◌≡◌, ◌≤◌, ℕ, Bool, true, false, Option, Some, None, refl, sym, ap, subst, ◌∙◌}
 use Rattle.std.specs.Prelude.{⊤, IsSome, IfSome}
+use Rattle.store_core.specs.declared.part_keys.PartKey.{PartKey}
 use Rattle.store_core.specs.declared.replies.Reply.{Reply}
 use Rattle.state_core.specs.VersionReading.{most}
 use Rattle.history_core.specs.declared.asked.Asked.{Asked}
 use Rattle.history_core.specs.declared.asked.Asked.TheVariants as asks
 use Rattle.history_core.specs.declared.merge_answers.MergeAnswer.{MergeAnswer}
+use Rattle.load_core.specs.declared.damages.Damage.TheVariants as damages
 use Rattle.load_core.specs.declared.polls.Poll.{Poll}
 use Rattle.load_core.specs.declared.polls.Poll.TheVariants as polls
 use Rattle.load_core.specs.declared.readies.Ready.{Ready}
@@ -31,7 +33,8 @@ use Rattle.merge_client.specs.declared.founds.Found.{Found}
 use Rattle.merge_client.specs.declared.founds.Found.TheVariants as founds
 use Rattle.merge_client.specs.declared.pairs.Pair.{Pair}
 use Rattle.merge_client.specs.Finding.{finding}
-use Rattle.merge_client.specs.Merging.{IsGot, IsIdle, IsLent, IsReady, IsSound, Moves, MovesAfterRead, MovesAfterTry, MovesBy, after_poll, member_after, read_poll, reading_on, taken_back, verdict}
+use Rattle.merge_client.specs.Merging.{IsGot, IsIdle, IsLent, IsReady, IsSound, Moves, MovesAfterTry, MovesBy, ReadsTo, after_poll, left_fit, member_after, misfit, noted, read_poll, reading_on, spoilt, stopped, taken_back, told_fit, verdict}
+use Rattle.merge_client.proofs.Noted.{MovesFit, noted_ready}
 use Rattle.merge_client.proofs.Light.{read_light}
 
 -- ---- what a poll leaves
@@ -231,8 +234,8 @@ on_sound old q r ready ask sound g asked shard =
 
 read_sound : (old new : Compactor) (q : Due) (reply : Reply) (poll : Poll MergeAnswer) → IsReady old →
     storing.IsSound new.storing →
-    readings.IsSound finding new.reading → old.reading.asked ≡ Some q → MovesAfterRead old reply new poll → IsSound new
-read_sound old new q reply poll ready sound g ask (r, read, moves, poll_is, new_is) = subst IsSound (sym now) (by read refl)
+    readings.IsSound finding new.reading → old.reading.asked ≡ Some q → MovesFit old reply new poll → IsSound new
+read_sound old new q reply poll ready sound g ask (r, read, moves, (poll_is, new_is)) = subst IsSound (sym now) (by read refl)
   where
     at : Poll Found → Compactor
     at p = after_poll (taken_back (reading_on old r) p) (read_poll p)
@@ -321,6 +324,29 @@ read_sound old new q reply poll ready sound g ask (r, read, moves, poll_is, new_
         (founds.Gone version)) e) refl refl refl
     by (polls.Done (founds.Due p)) e = due p e
 
+-- a part doesn't fit
+abbrev unfit : Compactor → Reading Due → PartKey → Compactor
+unfit old r key = taken_back (reading_on (noted old) (stopped r)) (spoilt key)
+
+unfit_sound : (old new : Compactor) (q : Due) (r : Reading Due) (reply : Reply) (poll : Poll MergeAnswer) (read : Poll Found) →
+    IsReady old → storing.IsSound new.storing → readings.IsSound finding new.reading → old.reading.asked ≡ Some q →
+    readings.Moves finding old.reading reply r read → (key : PartKey) → ReadsTo (noted old) (stopped r) (spoilt key) new poll → IsSound new
+unfit_sound old new q r reply poll read ready s g ask moves key (poll_is, new_is) = subst IsSound (sym now)
+    (rest_sound (unfit old r key) (polls.Damaged (damages.Weight key)) s_here g_here refl ready.drafted ready.sound.token (if_any (unfit old r key).member
+    (IsSome (unfit old r key).storing.trying.loader.cached) known) (λ answer h. known))
+  where
+    now : new ≡ after_poll (unfit old r key) (polls.Damaged (damages.Weight key))
+    now = new_is ∙ ap (λ (p : Poll MergeAnswer). after_poll (unfit old r key) p) poll_is
+
+    s_here : storing.IsSound (unfit old r key).storing
+    s_here = subst (λ (c : Compactor). storing.IsSound c.storing) now s
+
+    g_here : readings.IsSound finding (unfit old r key).reading
+    g_here = subst (λ (c : Compactor). readings.IsSound finding c.reading) now g
+
+    known : IsSome (unfit old r key).storing.trying.loader.cached
+    known = (read_stays finding old.reading r reply read moves).known (sound_by finding old.reading q ask ready.sound.reading).known
+
 -- ---- after each reply
 
 moved_sound : (old new : Compactor) (reply : Reply) (poll : Poll MergeAnswer) → IsReady old → storing.IsSound new.storing →
@@ -329,7 +355,11 @@ moved_sound old new reply poll ready s g moves = go old.reading.asked refl moves
   where
     go : (o : Option Due) → old.reading.asked ≡ o → MovesBy o old reply new poll → IsSound new
     go None e m = try_sound old new reply poll ready s e m
-    go (Some q) e m = read_sound old new q reply poll ready s g e m
+    go (Some q) e (r, read, moves, h) = each (misfit (noted old) r) h
+      where
+        each : (o : Option PartKey) → ReadsTo (noted old) (left_fit o r) (told_fit o read) new poll → IsSound new
+        each None k = read_sound (noted old) new q reply poll (noted_ready old ready) s g e (r, read, moves, k)
+        each (Some key) k = unfit_sound old new q r reply poll read ready s g e moves key k
 
 -- after it has settled by a poll
 pub settled_sound : (old mid new : Compactor) (reply : Reply) (poll : Poll MergeAnswer) → IsReady old →

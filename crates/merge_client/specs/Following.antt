@@ -1,6 +1,7 @@
 -- What a client's own entries say of a compactor. Entries go newest first.
-use Rattle.std.specs.Prelude.{⊤, ◌≡◌, ◌⊎◌, ℕ, ◌<◌, ◌≤◌, ◌+◌, Option, Some, None, IfSome, IsSomeAnd, List, [], ◌++◌, length}
+use Rattle.std.specs.Prelude.{⊤, ◌≡◌, ◌⊎◌, ℕ, ◌<◌, ◌≤◌, ◌+◌, Option, Some, None, IfSome, IsSomeAnd, List, [], ◌++◌, length, take}
 use Rattle.std.specs.List.{AllByRecursion}
+use Rattle.update_core.specs.declared.updates.Update.{Update}
 use Rattle.store_core.specs.declared.shards.ShardId.{ShardId}
 use Rattle.store_core.specs.declared.calls.Call.{Call}
 use Rattle.store_core.specs.declared.entries.Entry.{Entry}
@@ -21,6 +22,7 @@ use Rattle.history_core.specs.declared.asked.Asked.TheVariants as asks
 use Rattle.history_core.specs.Discipline.{GotAs, Hold, ShowsState}
 use Rattle.history_core.specs.Placing.{places}
 use Rattle.history_core.specs.Upkeep.{TriesMerge}
+use Rattle.load_core.specs.declared.gettings.Getting.{Getting}
 use Rattle.load_core.specs.declared.nexts.Next.{Next}
 use Rattle.load_core.specs.declared.nexts.Next.TheVariants as nexts
 use Rattle.load_core.specs.Following.{FollowsTrying}
@@ -33,8 +35,10 @@ use Rattle.read_machine.specs.Readings as readings
 use Rattle.token_machine.specs.Following.{Draws, FollowsStoring, UsesToken}
 use Rattle.merge_client.specs.declared.compactors.Compactor.{Compactor}
 use Rattle.merge_client.specs.declared.dues.Due.{Due}
+use Rattle.merge_client.specs.declared.pair_bounds.PairBound.{PairBound}
 use Rattle.merge_client.specs.declared.pairs.Pair.{Pair}
 use Rattle.merge_client.specs.Finding.{IsDueIn, finding, look_by, places_in}
+use Rattle.merge_client.specs.Fitting.{bound_at}
 use Rattle.merge_client.specs.Merging.{owner, shard_of}
 
 -- ---- a merge
@@ -118,15 +122,29 @@ FollowsAsked client c start es (Some (asks.RenewCompactor now)) = IsSomeAnd c.me
 FollowsAsked client c start es (Some asks.CloseCompactor) = IsSomeAnd c.member (λ member. Tries c (Leave member))
 FollowsAsked client c start es (Some _) = ⊥
 
--- a compactor follows from its client's own entries
+-- Once a part of the right batch is got, the rows of the left one's parts are counted, as the client got them.
+abbrev pub CountsBy : List Answered → ℕ → Getting → Option PairBound → Type 0
+CountsBy own n g None = ⊤
+CountsBy own n g (Some b) =
+    b.parts < g.place → (rows : List Update) × Hold (GotAs own) (take b.parts g.keys) rows × (length rows ≡ n)
+
+abbrev pub Counts : List Answered → Compactor → Type 0
+Counts own c = CountsBy own c.left_rows c.reading.course.getting (bound_at c.reading.course c.reading.course.stage)
+
+-- a compactor follows from its client's own entries, but for the rows that it counts
 pub record Follows (client : ℕ) (c : Compactor) (start : Stored) (es : List Entry) : Type 0 where
   pub trying : FollowsTrying c.storing.trying (mine_back start es client)
   pub member : IfSome c.member (λ member. Draws Keeper (shard_of c) member c.token (mine_back start es client))
   pub asked : FollowsAsked client c start es c.asked
 
+-- and for these too
+pub record FollowsAll (client : ℕ) (c : Compactor) (start : Stored) (es : List Entry) : Type 0 where
+  pub follows : Follows client c start es
+  pub counts : Counts (mine_back start es client) c
+
 -- the same over a front, where it is told, lawful and from a start that stands for a list
 abbrev pub FollowsWhere : ℕ → Option History → Compactor → Type 0
-FollowsWhere client front c = WhereLawful (shard_of c) front (Backwards (λ start es list. Follows client c start es))
+FollowsWhere client front c = WhereLawful (shard_of c) front (Backwards (λ start es list. FollowsAll client c start es))
 
 -- a call that uses no token of the compactor's member above the last one drawn
 abbrev pub Spares : Compactor → Call → Type 0

@@ -12,7 +12,7 @@ use Rattle.history_core.specs.Upkeep.{LegalMergeBack}
 use Rattle.load_core.specs.declared.polls.Poll.{Poll}
 use Rattle.machine_core.specs.Machines.{Words}
 use Rattle.merge_client.specs.declared.compactors.Compactor.{Compactor}
-use Rattle.merge_client.specs.Following.{Follows, Spares}
+use Rattle.merge_client.specs.Following.{FollowsAll, Spares}
 use Rattle.merge_client.specs.Merging as merging
 use Rattle.merge_client.specs.Merging.{IsOpen, IsReady, IsSound, Prepares, Wants, call_of, member_after, shard_of}
 use Rattle.merge_client.specs.Polling.{CostAt, CostOver, Effect}
@@ -70,7 +70,7 @@ machine = record {
   Wants = Wants;
   Ends = Ended;
   Effect = λ k. Effect k.shard;
-  Follows = Follows;
+  Follows = FollowsAll;
   Spares = Spares;
   Legal = Legal;
   least = 3;

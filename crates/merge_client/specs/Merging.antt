@@ -1,7 +1,8 @@
 -- A compactor: what it does next, and what a reply makes of it.
-use Rattle.std.specs.Prelude.{◌≡◌, ℕ, ◌≤◌, ◌^◌, Option, Some, None, IsSome, IfSome, unwrap_or, []}
+use Rattle.std.specs.Prelude.{◌≡◌, ℕ, ◌≤◌, ◌^◌, Option, Some, None, IsSome, IfSome, unwrap_or, [], length}
 use Rattle.update_core.specs.Updates.{weight_of}
 use Rattle.store_core.specs.declared.shards.ShardId.{ShardId}
+use Rattle.store_core.specs.declared.part_keys.PartKey.{PartKey}
 use Rattle.store_core.specs.declared.calls.Call.{Call}
 use Rattle.store_core.specs.declared.replies.Reply.{Reply}
 use Rattle.state_core.specs.declared.kinds.Kind.TheVariants.{Keeper}
@@ -42,6 +43,7 @@ use Rattle.merge_client.specs.declared.founds.Found.{Found}
 use Rattle.merge_client.specs.declared.founds.Found.TheVariants as founds
 use Rattle.merge_client.specs.declared.pairs.Pair.{Pair}
 use Rattle.merge_client.specs.Finding.{finding}
+use Rattle.merge_client.specs.Fitting.{bound_at, misfit_by, noted_by}
 
 -- nothing is known of the shard
 abbrev pub unknown : ShardId → Loading
@@ -56,6 +58,7 @@ opened shard now lease = record {
   asked = Some (asks.OpenCompactor shard now lease);
   reading = record { course = courses.begun (getting.begun []) (unknown shard) 0; asked = None };
   pair = None;
+  left_rows = 0;
 }
 
 -- a command is open
@@ -267,16 +270,47 @@ read_poll polls.Spent = polls.Spent
 read_poll (polls.Damaged damage) = polls.Damaged damage
 read_poll (polls.Done found) = found_poll found
 
+-- while parts are got, the rows of the left batch's parts are counted
+abbrev pub noted : Compactor → Compactor
+noted c = record c {
+  left_rows = noted_by (bound_at c.reading.course c.reading.course.stage) c.reading.course.getting c.left_rows;
+}
+
+-- the key of the part that was got now, where it doesn't fit its batch
+abbrev pub misfit : Compactor → Reading Due → Option PartKey
+misfit c r = misfit_by (bound_at c.reading.course c.reading.course.stage) c.left_rows c.reading.course.getting.place
+    (length c.reading.course.getting.rows) r.course.getting
+
+-- a part doesn't fit its batch, and so the command ends
+abbrev pub spoilt : PartKey → Poll Found
+spoilt key = polls.Damaged (damages.Weight key)
+
+abbrev pub stopped : Reading Due → Reading Due
+stopped r = record r { asked = None }
+
+-- what the reading comes to, and what is left of it, where a part doesn't fit
+abbrev pub told_fit : Option PartKey → Poll Found → Poll Found
+told_fit None read = read
+told_fit (Some key) read = spoilt key
+
+abbrev pub left_fit : Option PartKey → Reading Due → Reading Due
+left_fit None r = r
+left_fit (Some key) r = stopped r
+
+abbrev pub ReadsTo : Compactor → Reading Due → Poll Found → Compactor → Poll MergeAnswer → Type 0
+ReadsTo old r read new poll = (poll ≡ read_poll read) × (new ≡ after_poll (taken_back (reading_on old r) read) poll)
+
+-- of a compactor that has counted the rows of the left batch
 abbrev pub MovesAfterRead : Compactor → Reply → Compactor → Poll MergeAnswer → Type 0
 MovesAfterRead old reply new poll =
-    (r : Reading Due) × (read : Poll Found) × readings.Moves finding old.reading reply r read × (poll ≡ read_poll read) ×
-    (new ≡ after_poll (taken_back (reading_on old r) read) poll)
+    (r : Reading Due) × (read : Poll Found) × readings.Moves finding old.reading reply r read ×
+    ReadsTo old (left_fit (misfit old r) r) (told_fit (misfit old r) read) new poll
 
 -- ---- what a reply comes to
 
 abbrev pub MovesBy : Option Due → Compactor → Reply → Compactor → Poll MergeAnswer → Type 0
 MovesBy None old reply new poll = MovesAfterTry old reply new poll
-MovesBy (Some q) old reply new poll = MovesAfterRead old reply new poll
+MovesBy (Some q) old reply new poll = MovesAfterRead (noted old) reply new poll
 
 abbrev pub Moves : Compactor → Reply → Compactor → Poll MergeAnswer → Type 0
 Moves old reply new poll = MovesBy old.reading.asked old reply new poll
@@ -284,7 +318,7 @@ Moves old reply new poll = MovesBy old.reading.asked old reply new poll
 -- what want of memory after a reply leaves: the same call is to be made again, a Scan or a Get
 abbrev pub WantsBy : Option Due → Compactor → Compactor → Type 0
 WantsBy None old new = trying.IsScanning old.storing.trying.next × (new ≡ record old { storing = storing.called old.storing })
-WantsBy (Some q) old new = new ≡ reading_on old (record old.reading { course = counted old.reading.course })
+WantsBy (Some q) old new = new ≡ reading_on (noted old) (record old.reading { course = counted old.reading.course })
 
 abbrev pub Wants : Compactor → Compactor → Type 0
 Wants old new = WantsBy old.reading.asked old new

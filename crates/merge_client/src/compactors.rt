@@ -36,6 +36,8 @@ pub struct Compactor {
     pub(crate) reading: Reading<Due>,
     /// The pair that is got, until its merge is drafted.
     pub(crate) pair: Option<Pair>,
+    /// How many rows the left batch's parts hold, once a part of the right one is got.
+    pub(crate) left_rows: usize,
 }
 
 impl Compactor {
@@ -57,6 +59,7 @@ impl Compactor {
             asked: Some(Asked::OpenCompactor { shard, now, lease }),
             reading: Reading::new(alloc, shard),
             pair: None,
+            left_rows: 0,
         }
     }
 

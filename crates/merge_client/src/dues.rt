@@ -53,14 +53,14 @@ impl Question for Due {
 }
 
 // The places of the leftmost batch that is due to be merged with the next, and of that one.
-fn due_places(state: &State) -> Option<(usize, usize)>
+pub(crate) fn due_places(state: &State) -> Option<(usize, usize)>
     ensures { result ≡ places_in state.now }
 {
     let _ = state.members();
     state.spine().due()
 }
 
-fn batch_at(state: &State, place: usize) -> Option<&Batch>
+pub(crate) fn batch_at(state: &State, place: usize) -> Option<&Batch>
     ensures { option_copied result ≡ slice_get state.now.batches place }
 {
     state.spine().batches().get(place)

@@ -3,11 +3,14 @@
 
 mod compactors;
 mod dues;
+mod fitting;
 mod founds;
 pub mod laws;
 mod machines;
+mod pair_bounds;
 mod pairs;
 mod polling;
+mod row_bounds;
 mod settling;
 mod taking;
 

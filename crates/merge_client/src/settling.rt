@@ -7,10 +7,12 @@ ghost use Rattle.token_machine.specs.Storings.{called};
 ghost use Rattle.read_machine.specs.Courses.{counted, read_call};
 ghost use Rattle.read_machine.specs.Readings as readings;
 ghost use Rattle.merge_client.specs.Finding.{finding};
-ghost use Rattle.merge_client.specs.Merging.{IsOpen, IsSound, Moves, MovesAfterRead, MovesAfterTry, Wants, after_poll, call_of, change_poll, found_poll, given_after, gone_answer, in_answer, member_after, merge_poll, merge_refused, newest_number, own_member, pair_of, read_poll, reading_on, strange, verdict, with_pair};
+ghost use Rattle.merge_client.specs.Fitting.{bound_at};
+ghost use Rattle.merge_client.specs.Merging.{IsOpen, IsSound, Moves, MovesAfterRead, MovesAfterTry, Wants, after_poll, call_of, change_poll, found_poll, given_after, gone_answer, in_answer, member_after, merge_poll, merge_refused, newest_number, noted, own_member, pair_of, read_poll, reading_on, strange, verdict, with_pair};
 
 use crate::compactors::Compactor;
 use crate::founds::Found;
+use crate::pair_bounds::PairBound;
 use crate::taking::taken;
 use change_core::{Outcome, number_of, outcome_of};
 use history_core::{Asked, MergeAnswer};
@@ -65,14 +67,42 @@ impl Compactor {
         requires storing { storing.IsSound self.old.storing }
         requires scanning { trying.IsScanning self.old.storing.trying.next }
         requires row { IfSome (read_call self.old.reading.course self.old.reading.course.stage) (λ call. IsReplyTo call reply) }
+        ensures moves { IfOk result (λ poll. MovesAfterRead (noted self.old) reply (after_poll self.new poll) poll) }
+        ensures reading { readings.IsSound finding self.new.reading }
+        ensures next { self.new.storing.trying.next ≡ self.old.storing.trying.next }
+        ensures setting { self.new.storing.setting ≡ self.old.storing.setting }
+        ensures memory { OnErr result (self.new ≡ reading_on (noted self.old) (record self.old.reading { course = counted self.old.reading.course })) }
+    {
+        let bound = self.bound();
+        self.note(bound);
+        self.read_on(alloc, bound, reply)
+    }
+
+    // The same, where the rows of the left batch are counted.
+    fn read_on(
+        &mut self,
+        alloc: Global,
+        bound: Option<PairBound>,
+        reply: Reply,
+    ) -> Result<Poll<MergeAnswer>, AllocError>
+        requires open { IsSome self.old.reading.asked }
+        requires sound { readings.IsSound finding self.old.reading }
+        requires storing { storing.IsSound self.old.storing }
+        requires scanning { trying.IsScanning self.old.storing.trying.next }
+        requires row { IfSome (read_call self.old.reading.course self.old.reading.course.stage) (λ call. IsReplyTo call reply) }
+        requires bound { bound ≡ bound_at self.old.reading.course self.old.reading.course.stage }
         ensures moves { IfOk result (λ poll. MovesAfterRead self.old reply (after_poll self.new poll) poll) }
         ensures reading { readings.IsSound finding self.new.reading }
         ensures next { self.new.storing.trying.next ≡ self.old.storing.trying.next }
         ensures setting { self.new.storing.setting ≡ self.old.storing.setting }
         ensures memory { OnErr result (self.new ≡ reading_on self.old (record self.old.reading { course = counted self.old.reading.course })) }
     {
+        let place = self.reading.course.getting.place;
+        let count = self.reading.course.getting.rows.as_slice().len();
         self.count();
         let read = self.reading.react(alloc, reply)?;
+        let misfit = self.misfit(bound, place, count);
+        let read = self.fit(misfit, read);
         self.take_back(&read);
         Ok(self.read_poll(read))
     }
