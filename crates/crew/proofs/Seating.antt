@@ -6,12 +6,14 @@ use Rattle.std.proofs.lemmas.Bool.Decides.{nat_tests}
 use Rattle.state_core.proofs.ListLemmas.{bool_cases}
 use Rattle.std.specs.List.{AllByRecursion}
 use Rattle.turnstile.specs.declared.views.View.{View}
+use Rattle.turnstile.specs.declared.passes.Pass.{Pass}
 use Rattle.turnstile.specs.Passes.{view}
 use Rattle.turnstile.specs.Rule.{entries_by, once, times}
 use Rattle.store_core.specs.declared.entries.Entry.{Entry}
 use Rattle.store_core.specs.declared.shards.ShardId.{ShardId}
 use Rattle.store_core.specs.Histories.{History}
 use Rattle.store_core.specs.Ports.{OfOthers, with_entries}
+use Rattle.shared_store.specs.declared.counted_stores.CountedStore.{CountedStore}
 use Rattle.shared_store.specs.Fronts.{front_of, told_history}
 use Rattle.crew_core.specs.declared.jobs.Job.{Job}
 use Rattle.crew_core.specs.Keeping.{Keeps}
@@ -191,12 +193,12 @@ seats_on plan xs ys s worker len is placed place = (
 pub all_suit : {S : Type 0} {G : Ghosts S} (plan : Plan) (worker : ℕ) (ss : List (Seat S G)) → NumberedFrom (worker + 1) ss →
     PlacedFrom plan worker ss → AllByRecursion (Suits plan) ss
 all_suit plan worker [] numbered placed = tt
-all_suit plan worker (s ∷ ss) numbered placed = (one s.pass numbered.0, all_suit plan (worker + 1) ss numbered.1 placed.1)
+all_suit {S = S} {G = G} plan worker (s ∷ ss) numbered placed = (one s.pass numbered.0, all_suit plan (worker + 1) ss numbered.1 placed.1)
   where
     back : (n : ℕ) → (n + 1) - 1 ≡ n
     back n = omega arith
 
-    one : (o : Option _) → IfSome o (λ p. (view p).number ≡ worker + 1) → IfSome o (λ p. s.job ≡ job_in plan (view p).number)
+    one : (o : Option (Pass (CountedStore S G) S Entry)) → IfSome o (λ p. (view p).number ≡ worker + 1) → IfSome o (λ p. s.job ≡ job_in plan (view p).number)
     one None k = tt
     one (Some p) k = placed.0.job ∙ ap (job_of plan) (sym (back worker) ∙ ap (λ n. n - 1) (sym k))
 

@@ -1,6 +1,6 @@
 use Rattle.std.proofs.Common.{refl, sym, ◌∙◌}
 use Rattle.shared_store.specs.Fronts.{front_of}
-use Rattle.crew.proofs.Looping.{below_on, below_start, ended, means_first, stopped, works_end, works_on, works_start}
+use Rattle.crew.proofs.Looping.{below_on, below_start, ended, means_first, stopped, stopped_means, works_end, works_on, works_start}
 use Rattle.crew.proofs.working.work.Goals as goal
 
 pub loop-init : goal.loop-init
@@ -30,7 +30,8 @@ pub returns-then-is_at-clause-end : goal.returns-then-is_at-clause-end
 returns-then-is_at-clause-end g c = record {
   counts = stopped g.S.Store.history c.args.stop c.loop.port.port c.loop.port.calls c.is_at.ensures.counted c.loop.invariant.below
       (sym c.is_at.ensures.value ∙ c.if-is_at.true);
-  means = tt;
+  means = stopped_means (g.W.Worker.role c.args.worker.now) (g.W.Worker.shard c.args.worker.now) c.loop.port.port.known.number
+      (front_of g.S.Store.history c.loop.port.port.known);
 }
 
 pub returns-in-End-clause-keeps : goal.returns-in-End-clause-keeps
