@@ -16,6 +16,7 @@ use Rattle.store_core.specs.Histories.{History}
 use Rattle.store_core.specs.Stores.{Stored}
 use Rattle.update_core.specs.declared.updates.Update.{Update}
 use Rattle.load_core.specs.Fronts.{Backwards, WhereLawful}
+use Rattle.history_core.specs.declared.merge_answers.MergeAnswer.TheVariants as merges
 use Rattle.history_core.specs.declared.write_answers.WriteAnswer.TheVariants as answers
 use Rattle.appends_core.specs.Feeds.{IsFeed, end_of_feed}
 use mathlib.Core.List.{IsPrefix}
@@ -25,8 +26,9 @@ use Rattle.shared_store.specs.Fronts.{front_of, told_history}
 use Rattle.shared_store.specs.Trails.{entry_client, extended}
 use Rattle.history_core.specs.Discipline.{Lawful}
 use Rattle.history_core.proofs.Prefixes.{prefix_lawful}
+use Rattle.crew_core.specs.declared.jobs.Job.{Job}
 use Rattle.crew_core.specs.Keeping.{Keeps}
-use Rattle.crew_core.specs.Working.{IsWorkersEntry}
+use Rattle.crew_core.specs.Working.{IsWorkersEntry, Role, as_compactor, as_writer, role_of}
 use Rattle.crew_core.specs.Competing.{FromWorkers}
 use Rattle.crew_core.proofs.CrewLaws.{competing_law, lawful_law}
 use Rattle.crew_core.proofs.Keeping.{entries_joined, keeps_first, of_entries}
@@ -36,14 +38,15 @@ use Rattle.turnstile.specs.Passes.{first_value, view}
 use Rattle.shared_store.specs.Passes.{told_of}
 use Rattle.crew.specs.declared.ends.WorkerEnd.{WorkerEnd}
 use Rattle.crew.specs.declared.ends.WorkerEnd.TheVariants as ends
-use Rattle.crew.specs.Ends.{EndMeans, IsAnswered, Once, UpperIs}
+use Rattle.crew.specs.Ends.{CompactorMeans, EndMeans, HasMerged, IsAnswered, IsMergeAnswered, Once, UpperIs, WriterMeans}
 use Rattle.crew.specs.Looping.{EndCounts}
 use Rattle.crew.specs.declared.seats.Seat.{Seat}
 use Rattle.crew.specs.Crews.{CrewRan, CrewRanOn}
 use Rattle.crew.specs.Posts.{opened}
 use Rattle.crew.specs.Seats.{AllEndAs, CountsAs, EndsAs, EndsOn, HasNumber, HasWorked, IsPrefixOf, KinKeeps, NumberedFrom}
 use Rattle.crew.specs.Seats.{PlacedFrom, Shows, ShowsSeat, Works, ends_of, share_in, shares_of}
-use Rattle.crew.specs.declared.stops.Stop.{Stop}
+use Rattle.crew.specs.declared.plans.Plan.{Plan}
+use Rattle.crew.specs.Plans.{job_in, job_of, role_in}
 use Rattle.crew.proofs.Endings.{once_with}
 use Rattle.crew.proofs.PortKeeping.{front_is, some_is}
 use Rattle.crew.proofs.Seating.{rest_of_others}
@@ -60,30 +63,30 @@ first_in : (kin : List (ℕ × List Entry)) (older newer : List Entry) → EachI
 first_in kin [] newer h = tt
 first_in kin (x ∷ older) newer h = (h.0, first_in kin older newer h.1)
 
-pub crew_ran : (appends : List FeedAppend) (shard : ShardId) (h : History) (gain : List Entry) (kin : List (ℕ × List Entry)) →
-    IsFeed appends → EachIn entry_client kin gain →
-    ((n : ℕ) → 0 < times n kin → Keeps (IsWorkersEntry appends shard) shard n h gain) → CrewRan appends shard h (with_entries h gain)
-crew_ran appends shard h gain kin feed each keeps = record {
+pub crew_ran : (plan : Plan) (h : History) (gain : List Entry) (kin : List (ℕ × List Entry)) → IsFeed plan.appends →
+    EachIn entry_client kin gain → ((n : ℕ) → 0 < times n kin → Keeps (IsWorkersEntry (role_in plan n) plan.shard) plan.shard n h gain) →
+    CrewRan plan h (with_entries h gain)
+crew_ran plan h gain kin feed each keeps = record {
   gain = gain;
   now_is = refl;
-  lawful = λ list st l. lawful_law appends shard list kin h gain st l all;
+  lawful = λ list st l. lawful_law (job_in plan) plan.appends plan.shard list kin h gain st l all;
   each = λ list st l older newer e split.
       let mine = in_kin kin older newer e (subst (EachIn entry_client kin) split each) in
-      let whole = lawful_law appends shard list kin h gain st l all in
+      let whole = lawful_law (job_in plan) plan.appends plan.shard list kin h gain st l all in
       let joined : with_entries (with_entries h older) (e ∷ newer) ≡ with_entries h gain =
       entries_joined h older (e ∷ newer) ∙ ap (with_entries h) (sym split) in
       keeps e.client mine older newer e split refl list st
       (prefix_lawful (with_entries h older) (e ∷ newer) (subst Lawful (sym joined) whole));
   collection = λ list st l c has older newer split.
-      competing_law appends shard list kin h older feed.follow st l (record {
+      competing_law (job_in plan) plan.appends plan.shard list kin h older feed.follow st l (record {
         each_of = first_in kin older newer (subst (EachIn entry_client kin) split each);
         each_keeps = λ n mine.
-            keeps_first (IsWorkersEntry appends shard) shard n h older newer
-            (subst (Keeps (IsWorkersEntry appends shard) shard n h) split (keeps n mine));
+            keeps_first (IsWorkersEntry (role_in plan n) plan.shard) plan.shard n h older newer
+            (subst (Keeps (IsWorkersEntry (role_in plan n) plan.shard) plan.shard n h) split (keeps n mine));
       }) c has;
 }
   where
-    all : FromWorkers appends shard kin h gain
+    all : FromWorkers (job_in plan) plan.appends plan.shard kin h gain
     all = record { each_of = each; each_keeps = keeps }
 
 module _ {S : Type 0} where
@@ -100,23 +103,23 @@ module _ {S : Type 0} where
       go (Some p) e = on (history p.0) p.1 v.gain e
 
   -- what the pass that has taken in all others shows of the store
-  pub crew_ran_on : (appends : List FeedAppend) (shard : ShardId) (history : S → Option History) (v w : View S Entry)
-      (now : Option History) → IsFeed appends → v.gain ≡ [] → w.start ≡ v.start →
-      KinKeeps appends shard history w → now ≡ front_of history w → EachIn entry_client w.kin w.gain →
-      CrewRanOn appends shard (front_of history v) now
-  crew_ran_on appends shard history v w now feed unseen start keeps now_is each = go (opened history v) refl
+  pub crew_ran_on : (plan : Plan) (history : S → Option History) (v w : View S Entry)
+      (now : Option History) → IsFeed plan.appends → v.gain ≡ [] → w.start ≡ v.start →
+      KinKeeps (role_in plan) plan.shard history w → now ≡ front_of history w → EachIn entry_client w.kin w.gain →
+      CrewRanOn plan (front_of history v) now
+  crew_ran_on plan history v w now feed unseen start keeps now_is each = go (opened history v) refl
     where
-      go : (o : Option History) → opened history v ≡ o → CrewRanOn appends shard (front_of history v) now
-      go None e = subst (λ (f : Option History). CrewRanOn appends shard f now) (sym (front_none history v e))
+      go : (o : Option History) → opened history v ≡ o → CrewRanOn plan (front_of history v) now
+      go None e = subst (λ (f : Option History). CrewRanOn plan f now) (sym (front_none history v e))
           (now_is ∙ front_none history w (ap (told_history history) start ∙ e))
       go (Some h) e =
           let before : front_of history v ≡ Some h = front_is history v h e ∙ ap (λ (es : List Entry). Some (with_entries h es)) unseen
           ∙ ap (λ (es : List Entry). Some (of_entries h.start es)) (append-nil h.trail) in
           let told : opened history w ≡ Some h = ap (told_history history) start ∙ e in
-          subst (λ (f : Option History). CrewRanOn appends shard f now) (sym before) (
+          subst (λ (f : Option History). CrewRanOn plan f now) (sym before) (
             with_entries h w.gain,
             now_is ∙ front_is history w h told,
-            crew_ran appends shard h w.gain w.kin feed each
+            crew_ran plan h w.gain w.kin feed each
                 (λ n mine. keeps n mine h told),
           )
 
@@ -145,10 +148,10 @@ first_kin start kin is = subst (λ (k : List (ℕ × List Entry)). 0 < times 0 k
     one e = omega arith
 
 -- what an end means on a front it means on what that has grown to
-pub means_grown : (appends : List FeedAppend) (shard : ShardId) (client : ℕ) (h : History) (xs ys : List Entry) (end : WorkerEnd) →
-    IsPrefix xs ys → EndMeans appends shard client (Some (with_entries h xs)) end →
-    EndMeans appends shard client (Some (with_entries h ys)) end
-means_grown appends shard client h xs ys end (rest, is) = by end
+pub means_grown : (role : Role) (shard : ShardId) (client : ℕ) (h : History) (xs ys : List Entry) (end : WorkerEnd) →
+    IsPrefix xs ys → EndMeans role shard client (Some (with_entries h xs)) end →
+    EndMeans role shard client (Some (with_entries h ys)) end
+means_grown role shard client h xs ys end (rest, is) = by role end
   where
     joined : with_entries (with_entries h xs) rest ≡ with_entries h ys
     joined = entries_joined h xs rest ∙ ap (with_entries h) is
@@ -157,18 +160,36 @@ means_grown appends shard client h xs ys end (rest, is) = by end
         WhereLawful shard (Some (with_entries h ys)) (Backwards (Once P))
     on P k = subst (λ (g : History). WhereLawful shard (Some g) (Backwards (Once P))) joined (once_with P shard (with_entries h xs) rest k)
 
-    by : (e : WorkerEnd) → EndMeans appends shard client (Some (with_entries h xs)) e →
-        EndMeans appends shard client (Some (with_entries h ys)) e
-    by ends.Finished k = λ some. on (UpperIs shard (end_of_feed appends)) (k some)
-    by (ends.Misfit upper) k = (k.0, on (UpperIs shard upper) k.1)
-    by (ends.MembersFull version) k =
+    of_writer : (appends : List FeedAppend) (e : WorkerEnd) → WriterMeans appends shard client (Some (with_entries h xs)) e →
+        WriterMeans appends shard client (Some (with_entries h ys)) e
+    of_writer appends ends.Finished k = λ some. on (UpperIs shard (end_of_feed appends)) (k some)
+    of_writer appends (ends.Misfit upper) k = (k.0, on (UpperIs shard upper) k.1)
+    of_writer appends (ends.MembersFull version) k =
         on (λ start es list. (p : ℕ) × IsAnswered appends p shard client (answers.MembersFull version) start es list) k
-    by (ends.Heavy weight) k = on (λ start es list. (p : ℕ) × IsAnswered appends p shard client (answers.Heavy weight) start es list) k
-    by ends.Stopped k = tt
-    by ends.Faulted k = tt
-    by ends.Memory k = tt
-    by (ends.Damaged damage) k = tt
-    by ends.Spent k = tt
+    of_writer appends (ends.Heavy weight) k =
+        on (λ start es list. (p : ℕ) × IsAnswered appends p shard client (answers.Heavy weight) start es list) k
+    of_writer appends ends.Stopped k = tt
+    of_writer appends ends.Faulted k = tt
+    of_writer appends ends.Memory k = tt
+    of_writer appends (ends.Damaged damage) k = tt
+    of_writer appends ends.Spent k = tt
+
+    of_compactor : (e : WorkerEnd) → CompactorMeans shard client (Some (with_entries h xs)) e →
+        CompactorMeans shard client (Some (with_entries h ys)) e
+    of_compactor ends.Finished k = on (HasMerged shard client) k
+    of_compactor (ends.Misfit upper) k = absurd k
+    of_compactor (ends.MembersFull version) k = on (IsMergeAnswered shard client (merges.MembersFull version)) k
+    of_compactor (ends.Heavy weight) k = absurd k
+    of_compactor ends.Stopped k = tt
+    of_compactor ends.Faulted k = tt
+    of_compactor ends.Memory k = tt
+    of_compactor (ends.Damaged damage) k = tt
+    of_compactor ends.Spent k = tt
+
+    by : (r : Role) (e : WorkerEnd) → EndMeans r shard client (Some (with_entries h xs)) e →
+        EndMeans r shard client (Some (with_entries h ys)) e
+    by (as_writer appends) e k = of_writer appends e k
+    by as_compactor e k = of_compactor e k
 
 module _ {S : Type 0} {G : Ghosts S} (appends : List FeedAppend) (shard : ShardId) (t : Turnstile (CountedStore S G) S Entry) where
   pub all_worked : (xs ys : List (Seat S G)) → length ys ≡ length xs →
@@ -196,16 +217,16 @@ module _ {S : Type 0} {G : Ghosts S} (appends : List FeedAppend) (shard : ShardI
       ((works 0 x (omega arith)).number n h.0, all_numbered xs ys (n + 1) (omega arith) (λ i d lt. works (suc i) d (omega arith)) h.1)
 
   -- each seat goes on as its worker's
-  pub all_placed : (stops : List Stop) (worker : ℕ) (xs ys : List (Seat S G)) → length ys ≡ length xs →
+  pub all_placed : (plan : Plan) (worker : ℕ) (xs ys : List (Seat S G)) → length ys ≡ length xs →
       ((i : ℕ) (d : Seat S G) → i < length xs → Works appends shard t (slice_index_or xs i d) (slice_index_or ys i d)) →
-      PlacedFrom stops worker xs → PlacedFrom stops worker ys
-  all_placed stops worker [] [] len works h = tt
-  all_placed stops worker [] (y ∷ ys) len works h = absurd (omega arith)
-  all_placed stops worker (x ∷ xs) [] len works h = absurd (omega arith)
-  all_placed stops worker (x ∷ xs) (y ∷ ys) len works h =
+      PlacedFrom plan worker xs → PlacedFrom plan worker ys
+  all_placed plan worker [] [] len works h = tt
+  all_placed plan worker [] (y ∷ ys) len works h = absurd (omega arith)
+  all_placed plan worker (x ∷ xs) [] len works h = absurd (omega arith)
+  all_placed plan worker (x ∷ xs) (y ∷ ys) len works h =
       let first : Works appends shard t x y = works 0 x (omega arith) in (
-        (first.worker ∙ h.0.0, first.stop ∙ h.0.1),
-        all_placed stops (worker + 1) xs ys (omega arith) (λ i d lt. works (suc i) d (omega arith)) h.1,
+        record { number = first.worker ∙ h.0.number; stop = first.stop ∙ h.0.stop; job = first.job ∙ h.0.job },
+        all_placed plan (worker + 1) xs ys (omega arith) (λ i d lt. works (suc i) d (omega arith)) h.1,
       )
 
   -- what a seat's end says of the last pass
@@ -228,7 +249,7 @@ module _ {S : Type 0} {G : Ghosts S} (appends : List FeedAppend) (shard : ShardI
 
   one_ends : (client : ℕ) (s : Seat S G) (w : View S Entry) (h : History) → opened G.history w ≡ Some h →
       w.start ≡ told_of (first_value t) → HasWorked appends shard t s → HasNumber client s → ShowsSeat w s → IsPrefixOf w s →
-      EndsAs appends shard client s.stop s.end h w.gain
+      EndsAs (role_of s.job appends) shard client s.stop s.end h w.gain
   one_ends client s w h told start k number shows prefix =
       let v : View S Entry = view k.pass in
       let number_is : v.number ≡ client = subst (λ (o : Option _). IfSome o (λ p. (view p).number ≡ client)) k.there number in
@@ -238,30 +259,32 @@ module _ {S : Type 0} {G : Ghosts S} (appends : List FeedAppend) (shard : ShardI
       let told2 : opened G.history v ≡ Some h = ap (told_history G.history) (k.is_pass.start ∙ sym start) ∙ told in
       record {
         counts = counts_by client s.stop v h w.gain s.end told2 number_is (shown client mine).1 k.shown.counts;
-        means = subst (λ (n : ℕ). EndMeans appends shard n (Some (with_entries h w.gain)) s.end) number_is
-            (means_grown appends shard v.number h v.gain w.gain s.end begins
-            (subst (λ (f : Option History). EndMeans appends shard v.number f s.end) (front_is G.history v h told2) k.shown.means));
+        means = subst (λ (n : ℕ). EndMeans (role_of s.job appends) shard n (Some (with_entries h w.gain)) s.end) number_is
+            (means_grown (role_of s.job appends) shard v.number h v.gain w.gain s.end begins
+            (subst (λ (f : Option History). EndMeans (role_of s.job appends) shard v.number f s.end) (front_is G.history v h told2) k.shown.means));
       }
 
-  pub all_end : (stops : List Stop) (worker : ℕ) (ss : List (Seat S G)) (w : View S Entry) (h : History) →
-      opened G.history w ≡ Some h → w.start ≡ told_of (first_value t) → AllByRecursion (HasWorked appends shard t) ss →
-      NumberedFrom (worker + 1) ss → AllByRecursion (ShowsSeat w) ss → AllByRecursion (IsPrefixOf w) ss → PlacedFrom stops worker ss →
-      AllEndAs appends shard stops worker (ends_of ss) h w.gain
-  all_end stops worker [] w h told start a b c d e = tt
-  all_end stops worker (s ∷ ss) w h told start a b c d e = (
-    subst (λ (o : Option ℕ). EndsAs appends shard (worker + 1) o s.end h w.gain) e.0.1
-        (one_ends (worker + 1) s w h told start a.0 b.0 c.0 d.0),
-    all_end stops (worker + 1) ss w h told start a.1 b.1 c.1 d.1 e.1,
+module _ {S : Type 0} {G : Ghosts S} (plan : Plan) (t : Turnstile (CountedStore S G) S Entry) where
+  pub all_end : (worker : ℕ) (ss : List (Seat S G)) (w : View S Entry) (h : History) →
+      opened G.history w ≡ Some h → w.start ≡ told_of (first_value t) → AllByRecursion (HasWorked plan.appends plan.shard t) ss →
+      NumberedFrom (worker + 1) ss → AllByRecursion (ShowsSeat w) ss → AllByRecursion (IsPrefixOf w) ss → PlacedFrom plan worker ss →
+      AllEndAs plan worker (ends_of ss) h w.gain
+  all_end worker [] w h told start a b c d e = tt
+  all_end worker (s ∷ ss) w h told start a b c d e = (
+    subst (λ (o : Option ℕ). EndsAs (role_of (job_of plan worker) plan.appends) plan.shard (worker + 1) o s.end h w.gain) e.0.stop
+        (subst (λ (j : Job). EndsAs (role_of j plan.appends) plan.shard (worker + 1) s.stop s.end h w.gain) e.0.job
+        (one_ends plan.appends plan.shard t (worker + 1) s w h told start a.0 b.0 c.0 d.0)),
+    all_end (worker + 1) ss w h told start a.1 b.1 c.1 d.1 e.1,
   )
 
-  pub ends_on : (stops : List Stop) (ss : List (Seat S G)) (rs : List WorkerEnd) (v w : View S Entry) (now : Option History) →
+  pub ends_on : (ss : List (Seat S G)) (rs : List WorkerEnd) (v w : View S Entry) (now : Option History) →
       v.gain ≡ [] → w.start ≡ v.start → w.start ≡ told_of (first_value t) → now ≡ front_of G.history w →
-      AllByRecursion (HasWorked appends shard t) ss → NumberedFrom 1 ss → AllByRecursion (ShowsSeat w) ss →
-      AllByRecursion (IsPrefixOf w) ss → PlacedFrom stops 0 ss → rs ≡ ends_of ss →
-      EndsOn appends shard stops (front_of G.history v) now rs
-  ends_on stops ss rs v w now unseen start first now_is a b c d e same h gain before after = go (opened G.history v) refl
+      AllByRecursion (HasWorked plan.appends plan.shard t) ss → NumberedFrom 1 ss → AllByRecursion (ShowsSeat w) ss →
+      AllByRecursion (IsPrefixOf w) ss → PlacedFrom plan 0 ss → rs ≡ ends_of ss →
+      EndsOn plan (front_of G.history v) now rs
+  ends_on ss rs v w now unseen start first now_is a b c d e same h gain before after = go (opened G.history v) refl
     where
-      go : (o : Option History) → opened G.history v ≡ o → AllEndAs appends shard stops 0 rs h gain
+      go : (o : Option History) → opened G.history v ≡ o → AllEndAs plan 0 rs h gain
       go None e0 = absurd (let f : front_of G.history v ≡ None = front_none G.history v e0 in let bad : Some h ≡ None = sym before
           ∙ f in cc)
       go (Some h0) e0 =
@@ -273,6 +296,6 @@ module _ {S : Type 0} {G : Ghosts S} (appends : List FeedAppend) (shard : ShardI
           let here : with_entries h w.gain ≡ with_entries h gain =
           some_is (with_entries h w.gain) (with_entries h gain) (sym (front_is G.history w h told) ∙ sym now_is ∙ after) in
           let gain_is : w.gain ≡ gain = append_cancel_left h.trail w.gain gain (ap (λ (f : History). f.trail) here) in
-          subst (λ (es : List Entry). AllEndAs appends shard stops 0 rs h es) gain_is
-          (subst (λ (xs : List WorkerEnd). AllEndAs appends shard stops 0 xs h w.gain) (sym same)
-          (all_end stops 0 ss w h told first a b c d e))
+          subst (λ (es : List Entry). AllEndAs plan 0 rs h es) gain_is
+          (subst (λ (xs : List WorkerEnd). AllEndAs plan 0 xs h w.gain) (sym same)
+          (all_end 0 ss w h told first a b c d e))

@@ -11,6 +11,7 @@ use Rattle.shared_store.specs.contracts.counted_stores.CountedStore as counted
 use Rattle.shared_store.proofs.Crossing.{counted_send}
 use Rattle.std.proofs.option.Option.TheSendSync as options
 use Rattle.crew.specs.contracts.seats.Seat as seat
+use Rattle.crew_core.proofs.jobs.Job.TheSendSync as jobs
 use Rattle.crew.proofs.ends.WorkerEnd.TheSendSync as ends
 
 pub pass_send : (S : RattleType) (g : Ghosts S.Denot) → IsSend S → IsSend (pass.the_row (counted.the_row S g) S entry.the_row)
@@ -20,7 +21,10 @@ pub seat_send : (S : RattleType) (g : Ghosts S.Denot) → IsSend S → IsSend (s
 seat_send S g s = declared_send (seat.the_type S g) (
   search sendable,
   (
-    options.the_send u64 (search sendable),
-    (options.the_send (pass.the_row (counted.the_row S g) S entry.the_row) (pass_send S g s), (ends.the_send, tt)),
+    jobs.the_send,
+    (
+      options.the_send u64 (search sendable),
+      (options.the_send (pass.the_row (counted.the_row S g) S entry.the_row) (pass_send S g s), (ends.the_send, tt)),
+    ),
   ),
 )

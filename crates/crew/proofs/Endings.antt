@@ -29,7 +29,7 @@ use Rattle.write_client.specs.Machining.{Kept, Legal, command_in, kept, machine}
 use Rattle.write_client.specs.Writing.{IsOpen, shard_of}
 use Rattle.appends_core.specs.Feeds.{end_of_feed}
 use Rattle.crew_core.specs.KeepingOn.{KeepsOn}
-use Rattle.crew_core.specs.Working.{IsWorkersEntry}
+use Rattle.crew_core.specs.Working.{IsWorkersEntry, as_writer}
 use Rattle.crew.specs.declared.writing.WriterWorker.{WriterWorker}
 use Rattle.crew.specs.Ends.{AsksAt, IsAnswered, Once, Reached, UpperIs, WasAnswered}
 use Rattle.crew.specs.Writing.{IsGoing, IsPlaceOf, IsTold, PlaceMeans}
@@ -111,13 +111,13 @@ pub told_of : (w : WriterWorker) (client : ℕ) (front now : Option History) (ne
     shard_of w.writer ≡ w.shard → IfSome w.writer.asked (AsksAt w.appends.now w.place) → IsOpen w.writer →
     PlaceMeans w.appends.now w.shard w.place front → new.storing.trying.calls < most →
     Polled machine client front now w.writer new poll → LegalWhere machine client now w.writer new poll →
-    KeepsOn (IsWorkersEntry w.appends.now w.shard) w.shard client front now → IsTold client now (with_writer w new) poll
+    KeepsOn (IsWorkersEntry (as_writer w.appends.now) w.shard) w.shard client front now → IsTold client now (with_writer w new) poll
 told_of w client front now new poll of_shard asked opened reached few polled legal keeps = by poll polled legal
   where
     there : PlaceMeans w.appends.now w.shard w.place now
     there past some =
-        once_keeps (UpperIs w.shard (end_of_feed w.appends.now)) (IsWorkersEntry w.appends.now w.shard) w.shard w.shard client front now
-        keeps (reached past some)
+        once_keeps (UpperIs w.shard (end_of_feed w.appends.now)) (IsWorkersEntry (as_writer w.appends.now) w.shard) w.shard w.shard client front
+        now keeps (reached past some)
 
     going : new.asked ≡ w.writer.asked → IsGoing (with_writer w new) now
     going same = record {

@@ -4,8 +4,12 @@ mod Crossing
 mod CrewEnds
 mod Endings
 mod Looping
+mod MergeBeginnings
+mod MergeCarries
+mod MergeTurning
 mod PortKeeping
 mod Reaching
+mod RoleKeeping
 mod Rooms
 mod Seating
 mod TurnEnds

@@ -14,9 +14,8 @@ use Rattle.store_core.specs.declared.entries.Entry.{Entry}
 use Rattle.store_core.specs.Ports.{with_entries}
 use Rattle.store_core.specs.declared.shards.ShardId.{ShardId}
 use Rattle.store_core.specs.Histories.{History}
-use Rattle.update_core.specs.declared.appends.FeedAppend.{FeedAppend}
 use Rattle.crew_core.specs.KeepingOn.{KeepsOn}
-use Rattle.crew_core.specs.Working.{IsWorkersEntry}
+use Rattle.crew_core.specs.Working.{IsWorkersEntry, Role, as_compactor, as_writer}
 use Rattle.crew_core.proofs.Keeping.{on_both, on_same}
 use Rattle.crew.specs.declared.ends.WorkerEnd.{WorkerEnd}
 use Rattle.crew.specs.declared.ends.WorkerEnd.TheVariants as ends
@@ -28,62 +27,62 @@ use Rattle.crew.specs.Stops.{is_stop}
 use Rattle.crew.specs.Turns.{HasFailed, IsFaulted, IsMarked, MakesFew}
 use Rattle.crew.proofs.PortKeeping.{front_is, kept_pass, one_of, rest_is, some_is}
 
--- The worker has the appends and the shard that it had, is ready for its next turn, and each entry since then of its client is a
+-- The worker has the role and the shard that it had, is ready for its next turn, and each entry since then of its client is a
 -- worker's.
-pub record WorksSoFar (appends appends_now : List FeedAppend) (shard shard_now : ShardId) (ready_now : ℕ → Option History → Type 0)
+pub record WorksSoFar (role role_now : Role) (shard shard_now : ShardId) (ready_now : ℕ → Option History → Type 0)
     (client client_now : ℕ) (front now : Option History) : Type 0 where
-  pub same_appends : appends_now ≡ appends
+  pub same_role : role_now ≡ role
   pub same_shard : shard_now ≡ shard
   pub same_client : client_now ≡ client
   pub ready : ready_now client now
-  pub keeps : KeepsOn (IsWorkersEntry appends shard) shard client front now
+  pub keeps : KeepsOn (IsWorkersEntry role shard) shard client front now
 
-pub works_start : (appends : List FeedAppend) (shard : ShardId) (ready : ℕ → Option History → Type 0) (client : ℕ)
-    (front : Option History) → ready client front → WorksSoFar appends appends shard shard ready client client front front
-works_start appends shard ready client front is = record {
-  same_appends = refl;
+pub works_start : (role : Role) (shard : ShardId) (ready : ℕ → Option History → Type 0) (client : ℕ)
+    (front : Option History) → ready client front → WorksSoFar role role shard shard ready client client front front
+works_start role shard ready client front is = record {
+  same_role = refl;
   same_shard = refl;
   same_client = refl;
   ready = is;
-  keeps = on_same (IsWorkersEntry appends shard) shard client front;
+  keeps = on_same (IsWorkersEntry role shard) shard client front;
 }
 
 -- what a turn adds
-pub works_end : (appends appends_now : List FeedAppend) (shard shard_now : ShardId) (ready : ℕ → Option History → Type 0)
+pub works_end : (role role_now : Role) (shard shard_now : ShardId) (ready : ℕ → Option History → Type 0)
     (client client_now : ℕ) (front mid now : Option History) →
-    WorksSoFar appends appends_now shard shard_now ready client client_now front mid →
-    KeepsOn (IsWorkersEntry appends_now shard_now) shard_now client_now mid now →
-    KeepsOn (IsWorkersEntry appends shard) shard client front now
-works_end appends appends_now shard shard_now ready client client_now front mid now k more =
-    on_both (IsWorkersEntry appends shard) shard client front mid now k.keeps
-    (subst (λ (n : ℕ). KeepsOn (IsWorkersEntry appends shard) shard n mid now) k.same_client
-    (subst (λ (s : ShardId). KeepsOn (IsWorkersEntry appends s) s client_now mid now) k.same_shard
-    (subst (λ (xs : List FeedAppend). KeepsOn (IsWorkersEntry xs shard_now) shard_now client_now mid now) k.same_appends more)))
+    WorksSoFar role role_now shard shard_now ready client client_now front mid →
+    KeepsOn (IsWorkersEntry role_now shard_now) shard_now client_now mid now →
+    KeepsOn (IsWorkersEntry role shard) shard client front now
+works_end role role_now shard shard_now ready client client_now front mid now k more =
+    on_both (IsWorkersEntry role shard) shard client front mid now k.keeps
+    (subst (λ (n : ℕ). KeepsOn (IsWorkersEntry role shard) shard n mid now) k.same_client
+    (subst (λ (s : ShardId). KeepsOn (IsWorkersEntry role s) s client_now mid now) k.same_shard
+    (subst (λ (r : Role). KeepsOn (IsWorkersEntry r shard_now) shard_now client_now mid now) k.same_role more)))
 
-pub works_on : (appends appends_now appends_next : List FeedAppend) (shard shard_now shard_next : ShardId)
+pub works_on : (role role_now role_next : Role) (shard shard_now shard_next : ShardId)
     (ready ready_next : ℕ → Option History → Type 0) (client client_now client_next : ℕ) (front mid now : Option History) →
-    WorksSoFar appends appends_now shard shard_now ready client client_now front mid →
-    KeepsOn (IsWorkersEntry appends_now shard_now) shard_now client_now mid now →
-    appends_next ≡ appends_now → shard_next ≡ shard_now → client_next ≡ client_now → ready_next client_now now →
-    WorksSoFar appends appends_next shard shard_next ready_next client client_next front now
-works_on appends appends_now appends_next shard shard_now shard_next ready ready_next client client_now client_next front mid now k more
-    same_appends same_shard same_client is = record {
-      same_appends = same_appends ∙ k.same_appends;
+    WorksSoFar role role_now shard shard_now ready client client_now front mid →
+    KeepsOn (IsWorkersEntry role_now shard_now) shard_now client_now mid now →
+    role_next ≡ role_now → shard_next ≡ shard_now → client_next ≡ client_now → ready_next client_now now →
+    WorksSoFar role role_next shard shard_next ready_next client client_next front now
+works_on role role_now role_next shard shard_now shard_next ready ready_next client client_now client_next front mid now k more
+    same_role same_shard same_client is = record {
+      same_role = same_role ∙ k.same_role;
       same_shard = same_shard ∙ k.same_shard;
       same_client = same_client ∙ k.same_client;
       ready = subst (λ (n : ℕ). ready_next n now) k.same_client is;
-      keeps = works_end appends appends_now shard shard_now ready client client_now front mid now k more;
+      keeps = works_end role role_now shard shard_now ready client client_now front mid now k more;
     }
 
 -- what the last turn's end means, of what the worker was to do at first
-pub means_first : (appends appends_now : List FeedAppend) (shard shard_now : ShardId) (ready : ℕ → Option History → Type 0)
+pub means_first : (role role_now : Role) (shard shard_now : ShardId) (ready : ℕ → Option History → Type 0)
     (client client_now last : ℕ) (front mid now : Option History) (end : WorkerEnd) →
-    WorksSoFar appends appends_now shard shard_now ready client client_now front mid → last ≡ client_now →
-    EndMeans appends_now shard_now client_now now end → EndMeans appends shard last now end
-means_first appends appends_now shard shard_now ready client client_now last front mid now end k is m =
-    subst (λ (n : ℕ). EndMeans appends shard n now end) (sym is)
-    (subst (λ (s : ShardId). EndMeans appends s client_now now end) k.same_shard
-    (subst (λ (xs : List FeedAppend). EndMeans xs shard_now client_now now end) k.same_appends m))
+    WorksSoFar role role_now shard shard_now ready client client_now front mid → last ≡ client_now →
+    EndMeans role_now shard_now client_now now end → EndMeans role shard last now end
+means_first role role_now shard shard_now ready client client_now last front mid now end k is m =
+    subst (λ (n : ℕ). EndMeans role shard n now end) (sym is)
+    (subst (λ (s : ShardId). EndMeans role s client_now now end) k.same_shard
+    (subst (λ (r : Role). EndMeans r shard_now client_now now end) k.same_role m))
 
 module _ {S : Type 0} (history : S → Option History) where
   pub below_start : (stop : Option ℕ) (v : View S Entry) → own_calls v ≡ 0 → StaysBelow history stop v
@@ -192,3 +191,8 @@ module _ {S : Type 0} (history : S → Option History) where
       EndCounts history stop q.known end
   ended stop p q end kept marked =
       let same = kept_pass p q kept in ended_by stop p.known q.known end same.start same.number marked
+
+-- that a worker was stopped says nothing of what it did
+pub stopped_means : (role : Role) (shard : ShardId) (client : ℕ) (front : Option History) → EndMeans role shard client front ends.Stopped
+stopped_means (as_writer appends) shard client front = tt
+stopped_means as_compactor shard client front = tt

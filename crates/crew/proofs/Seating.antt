@@ -1,28 +1,32 @@
 -- What a worker's work makes of its seat.
-use Rattle.std.proofs.Common.{◌⊎◌, inl, inr, ◌≡◌, ℕ, ◌+◌, ◌<◌, zero, suc, cond, Bool, true, false, Option, Some, List, [], ◌∷◌}
+use Rattle.std.proofs.Common.{◌⊎◌, inl, inr, ◌≡◌, ℕ, ◌+◌, ◌-◌, ◌<◌, zero, suc, cond, Bool, true, false, Option, Some, None, List, [], ◌∷◌}
 use Rattle.std.proofs.Common.{◌++◌, length, refl, sym, ap, subst, ◌∙◌, arith}
-use Rattle.std.specs.Prelude.{◌==◌}
+use Rattle.std.specs.Prelude.{◌==◌, IfSome}
 use Rattle.std.proofs.lemmas.Bool.Decides.{nat_tests}
 use Rattle.state_core.proofs.ListLemmas.{bool_cases}
-use Rattle.update_core.specs.declared.appends.FeedAppend.{FeedAppend}
+use Rattle.std.specs.List.{AllByRecursion}
 use Rattle.turnstile.specs.declared.views.View.{View}
+use Rattle.turnstile.specs.declared.passes.Pass.{Pass}
+use Rattle.turnstile.specs.Passes.{view}
 use Rattle.turnstile.specs.Rule.{entries_by, once, times}
 use Rattle.store_core.specs.declared.entries.Entry.{Entry}
 use Rattle.store_core.specs.declared.shards.ShardId.{ShardId}
 use Rattle.store_core.specs.Histories.{History}
 use Rattle.store_core.specs.Ports.{OfOthers, with_entries}
+use Rattle.shared_store.specs.declared.counted_stores.CountedStore.{CountedStore}
 use Rattle.shared_store.specs.Fronts.{front_of, told_history}
+use Rattle.crew_core.specs.declared.jobs.Job.{Job}
 use Rattle.crew_core.specs.Keeping.{Keeps}
 use Rattle.crew_core.specs.KeepingOn.{KeepsOn}
-use Rattle.crew_core.specs.Working.{IsWorkersEntry}
-use Rattle.crew_core.proofs.Keeping.{keeps_both, keeps_others, of_entries}
+use Rattle.crew_core.specs.Working.{IsWorkersEntry, Role, role_of}
+use Rattle.crew_core.proofs.Keeping.{keeps_both, keeps_none, keeps_others, of_entries}
 use Rattle.crew.specs.Posts.{SamePass, opened}
 use Rattle.store_core.specs.declared.stores.Store.{Ghosts}
 use Rattle.crew.specs.declared.seats.Seat.{Seat}
-use Rattle.crew.specs.declared.stops.Stop.{Stop}
-use Rattle.crew.specs.Stops.{stop_of}
+use Rattle.crew.specs.declared.plans.Plan.{Plan}
+use Rattle.crew.specs.Plans.{job_in, job_of, role_in}
 use Rattle.std.proofs.lemmas.List.{length-append}
-use Rattle.crew.specs.Seats.{IsNew, IsPlaceFor, KinKeeps, PlacedFrom, Shows}
+use Rattle.crew.specs.Seats.{IsAlone, IsNew, IsPlaceFor, KinKeeps, NumberedFrom, PlacedFrom, Shows, Suits}
 use Rattle.crew.proofs.PortKeeping.{front_is, opened_same, rest_is, some_is}
 use Rattle.std.proofs.lemmas.List.{append-nil, append_cancel_left}
 use mathlib.Core.List.{IsPrefix}
@@ -40,24 +44,37 @@ only_number n m xs h = elim (bool_cases (m == n)) [
     same a b h = grind (arith, nat_tests)
 
 -- a new pass whose front has gone on keeps what came to the front
-pub kin_keeps : {S : Type 0} (appends : List FeedAppend) (shard : ShardId) (history : S → Option History) (v w : View S Entry) →
-    IsNew v → SamePass v w →
-    KeepsOn (IsWorkersEntry appends shard) shard v.number (front_of history v) (front_of history w) → KinKeeps appends shard history w
-kin_keeps appends shard history v w new same keeps n in_kin h told =
+pub is_alone : {S : Type 0} (v w : View S Entry) → IsNew v → SamePass v w → IsAlone w
+is_alone v w new same n in_kin =
     let alone : List (ℕ × List Entry) = (v.number, []) ∷ [] in
     let mine : 0 < times n alone = subst (λ (k : List (ℕ × List Entry)). 0 < times n k) new.kin
     (subst (λ (m : ℕ). 0 < m) (same.kin n) in_kin) in
-    let number : v.number ≡ n = only_number n v.number [] mine in
+    same.number ∙ only_number n v.number [] mine
+
+pub kin_keeps : {S : Type 0} (role : Role) (shard : ShardId) (history : S → Option History) (v w : View S Entry) →
+    IsNew v → SamePass v w →
+    KeepsOn (IsWorkersEntry role shard) shard v.number (front_of history v) (front_of history w) →
+    KinKeeps (λ n. role) shard history w
+kin_keeps role shard history v w new same keeps n in_kin h told =
+    let number : v.number ≡ n = sym same.number ∙ is_alone v w new same n in_kin in
     let told2 : opened history v ≡ Some h = sym (opened_same history v w same) ∙ told in
     let before : front_of history v ≡ Some h = front_is history v h told2 ∙ ap (λ (es : List Entry). Some (with_entries h es)) new.gain
     ∙ ap (λ (es : List Entry). Some (of_entries h.start es)) (append-nil h.trail) in
     let now : front_of history w ≡ Some (with_entries h w.gain) = front_is history w h told in
-    let (more, is, kept) = subst (λ (f : Option History). KeepsOn (IsWorkersEntry appends shard) shard v.number f (front_of history w))
+    let (more, is, kept) = subst (λ (f : Option History). KeepsOn (IsWorkersEntry role shard) shard v.number f (front_of history w))
     before keeps in
     let gain : w.gain ≡ more = rest_is h w.gain [] more (some_is (with_entries h w.gain) (with_entries (with_entries h []) more)
     (sym now ∙ is ∙ ap (λ (es : List Entry). Some (with_entries (of_entries h.start es) more)) (sym (append-nil h.trail)))) in
-    subst (λ (es : List Entry). Keeps (IsWorkersEntry appends shard) shard n h es) (sym gain)
-    (subst (λ (m : ℕ). Keeps (IsWorkersEntry appends shard) shard m h more) number kept)
+    subst (λ (es : List Entry). Keeps (IsWorkersEntry role shard) shard n h es) (sym gain)
+    (subst (λ (m : ℕ). Keeps (IsWorkersEntry role shard) shard m h more) number kept)
+
+-- a pass that answers for one client alone keeps what that client keeps in its role
+pub kin_as : {S : Type 0} (plan : Plan) (history : S → Option History) (v : View S Entry) (job : Job) → IsAlone v →
+    job ≡ job_in plan v.number → KinKeeps (λ n. role_of job plan.appends) plan.shard history v →
+    KinKeeps (role_in plan) plan.shard history v
+kin_as plan history v job alone suits keeps n in_kin h told =
+    subst (λ (j : Job). Keeps (IsWorkersEntry (role_of j plan.appends) plan.shard) plan.shard n h v.gain)
+    (suits ∙ ap (job_in plan) (alone n in_kin)) (keeps n in_kin h told)
 
 -- entries that have come since and are of others
 pub rest_of_others : (n : ℕ) (xs rest : List Entry) → entries_by entry_client n (xs ++ rest) ≡ entries_by entry_client n xs →
@@ -84,29 +101,29 @@ rest_of_others n xs rest e = none_by n rest (append_cancel_left (entries_by entr
           (tail_is (e.client == n) e (entries_by entry_client n es) h),
     )
 
-keeps_longer : (appends : List FeedAppend) (shard : ShardId) (n : ℕ) (h : History) (xs ys : List Entry) → IsPrefix xs ys →
+keeps_longer : (role : Role) (shard : ShardId) (n : ℕ) (h : History) (xs ys : List Entry) → IsPrefix xs ys →
     entries_by entry_client n ys ≡ entries_by entry_client n xs →
-    Keeps (IsWorkersEntry appends shard) shard n h xs → Keeps (IsWorkersEntry appends shard) shard n h ys
-keeps_longer appends shard n h xs ys (rest, is) own keeps =
+    Keeps (IsWorkersEntry role shard) shard n h xs → Keeps (IsWorkersEntry role shard) shard n h ys
+keeps_longer role shard n h xs ys (rest, is) own keeps =
     let of : OfOthers n rest = rest_of_others n xs rest (ap (entries_by entry_client n) is ∙ own) in
-    subst (λ (zs : List Entry). Keeps (IsWorkersEntry appends shard) shard n h zs) is
-    (keeps_both (IsWorkersEntry appends shard) shard n h xs rest keeps
-    (keeps_others (IsWorkersEntry appends shard) shard n (with_entries h xs) rest of))
+    subst (λ (zs : List Entry). Keeps (IsWorkersEntry role shard) shard n h zs) is
+    (keeps_both (IsWorkersEntry role shard) shard n h xs rest keeps
+    (keeps_others (IsWorkersEntry role shard) shard n (with_entries h xs) rest of))
 
 -- what both passes keep the joined pass keeps
-pub kin_joined : (S : Type 0) (appends : List FeedAppend) (shard : ShardId) (history : S → Option History) (v w u : View S Entry) →
+pub kin_joined : (S : Type 0) (roles : ℕ → Role) (shard : ShardId) (history : S → Option History) (v w u : View S Entry) →
     u ≡ both_of v w → v.start ≡ w.start →
     IsPrefix v.gain u.gain → IsPrefix w.gain u.gain →
     ((n : ℕ) → 0 < times n v.kin → entries_by entry_client n u.gain ≡ entries_by entry_client n v.gain) →
     ((n : ℕ) → 0 < times n w.kin → entries_by entry_client n u.gain ≡ entries_by entry_client n w.gain) →
-    KinKeeps appends shard history v → KinKeeps appends shard history w → KinKeeps appends shard history u
-kin_joined S appends shard history v w u is starts pre pre2 own others keeps keeps2 n in_kin h told =
+    KinKeeps roles shard history v → KinKeeps roles shard history w → KinKeeps roles shard history u
+kin_joined S roles shard history v w u is starts pre pre2 own others keeps keeps2 n in_kin h told =
     let both : 0 < times n v.kin + times n w.kin = subst (λ (m : ℕ). 0 < m)
     (ap (λ (x : View S Entry). times n x.kin) is ∙ times_append n v.kin w.kin) in_kin in
     let start : opened history u ≡ opened history v = ap (λ (x : View S Entry). opened history x) is in
     elim (some_of (times n v.kin) (times n w.kin) both) [
-      | inl k ↦ keeps_longer appends shard n h v.gain u.gain pre (own n k) (keeps n k h (sym start ∙ told))
-      | inr k ↦ keeps_longer appends shard n h w.gain u.gain pre2 (others n k)
+      | inl k ↦ keeps_longer (roles n) shard n h v.gain u.gain pre (own n k) (keeps n k h (sym start ∙ told))
+      | inr k ↦ keeps_longer (roles n) shard n h w.gain u.gain pre2 (others n k)
           (keeps2 n k h (ap (told_history history) (sym starts) ∙ sym start ∙ told))
     ]
   where
@@ -148,27 +165,46 @@ shows_theirs v w u is others n h = (
 )
 
 -- one more seat at the end
-pub placed_on : {S : Type 0} {G : Ghosts S} (stops : List Stop) (worker : ℕ) (xs : List (Seat S G)) (s : Seat S G) →
-    PlacedFrom stops worker xs → IsPlaceFor stops (worker + length xs) s → PlacedFrom stops worker (xs ++ s ∷ [])
-placed_on stops worker [] s h p = (subst (λ (n : ℕ). IsPlaceFor stops n s) (none worker) p, tt)
+pub placed_on : {S : Type 0} {G : Ghosts S} (plan : Plan) (worker : ℕ) (xs : List (Seat S G)) (s : Seat S G) →
+    PlacedFrom plan worker xs → IsPlaceFor plan (worker + length xs) s → PlacedFrom plan worker (xs ++ s ∷ [])
+placed_on plan worker [] s h p = (subst (λ (n : ℕ). IsPlaceFor plan n s) (none worker) p, tt)
   where
     none : (n : ℕ) → n + 0 ≡ n
     none n = omega arith
-placed_on stops worker (x ∷ xs) s h p =
-    (h.0, placed_on stops (worker + 1) xs s h.1 (subst (λ (n : ℕ). IsPlaceFor stops n s) (next worker (length xs)) p))
+placed_on plan worker (x ∷ xs) s h p =
+    (h.0, placed_on plan (worker + 1) xs s h.1 (subst (λ (n : ℕ). IsPlaceFor plan n s) (next worker (length xs)) p))
   where
     next : (n m : ℕ) → n + suc m ≡ (n + 1) + m
     next n m = omega arith
 
 -- a seat more, in the loop that makes them
-pub seats_on : {S : Type 0} {G : Ghosts S} (stops : List Stop) (xs ys : List (Seat S G)) (s : Seat S G) (worker : ℕ) → length xs ≡ worker →
-    ys ≡ xs ++ s ∷ [] → PlacedFrom stops 0 xs → s.worker ≡ worker → s.stop ≡ stop_of stops worker →
-    (length ys ≡ worker + 1) × PlacedFrom stops 0 ys
-seats_on stops xs ys s worker len is placed number stop = (
+pub seats_on : {S : Type 0} {G : Ghosts S} (plan : Plan) (xs ys : List (Seat S G)) (s : Seat S G) (worker : ℕ) → length xs ≡ worker →
+    ys ≡ xs ++ s ∷ [] → PlacedFrom plan 0 xs → IsPlaceFor plan worker s → (length ys ≡ worker + 1) × PlacedFrom plan 0 ys
+seats_on plan xs ys s worker len is placed place = (
   (let a = ap length is in let b = length-append xs (s ∷ []) in omega arith),
-  subst (λ (zs : List (Seat _ _)). PlacedFrom stops 0 zs) (sym is)
-      (placed_on stops 0 xs s placed (number ∙ here worker len, stop ∙ ap (stop_of stops) (here worker len))),
+  subst (λ (zs : List (Seat _ _)). PlacedFrom plan 0 zs) (sym is)
+      (placed_on plan 0 xs s placed (subst (λ (n : ℕ). IsPlaceFor plan n s) (here worker len) place)),
 )
   where
     here : (n : ℕ) → length xs ≡ n → n ≡ 0 + length xs
     here n e = omega arith
+
+-- the seats suit the plan once their passes are numbered
+pub all_suit : {S : Type 0} {G : Ghosts S} (plan : Plan) (worker : ℕ) (ss : List (Seat S G)) → NumberedFrom (worker + 1) ss →
+    PlacedFrom plan worker ss → AllByRecursion (Suits plan) ss
+all_suit plan worker [] numbered placed = tt
+all_suit {S = S} {G = G} plan worker (s ∷ ss) numbered placed = (one s.pass numbered.0, all_suit plan (worker + 1) ss numbered.1 placed.1)
+  where
+    back : (n : ℕ) → (n + 1) - 1 ≡ n
+    back n = omega arith
+
+    one : (o : Option (Pass (CountedStore S G) S Entry)) → IfSome o (λ p. (view p).number ≡ worker + 1) → IfSome o (λ p. s.job ≡ job_in plan (view p).number)
+    one None k = tt
+    one (Some p) k = placed.0.job ∙ ap (job_of plan) (sym (back worker) ∙ ap (λ n. n - 1) (sym k))
+
+-- a pass that has seen nothing keeps it
+pub none_kept : {S : Type 0} (plan : Plan) (history : S → Option History) (v : View S Entry) → v.gain ≡ [] →
+    KinKeeps (role_in plan) plan.shard history v
+none_kept plan history v unseen n in_kin h told =
+    subst (λ (es : List Entry). Keeps (IsWorkersEntry (role_in plan n) plan.shard) plan.shard n h es) (sym unseen)
+    (keeps_none (IsWorkersEntry (role_in plan n) plan.shard) plan.shard n h)

@@ -1,5 +1,5 @@
 -- What a turn adds to its front, and how it fails.
-use Rattle.std.proofs.Common.{◌≡◌, ◌≢◌, ◌⊎◌, inl, inr, ℕ, Option, Some, None, List, [], ◌∷◌, ◌++◌, length, refl, sym, ap, subst}
+use Rattle.std.proofs.Common.{◌≡◌, ◌≢◌, ◌⊎◌, ◌<◌, inl, inr, ℕ, Option, Some, None, List, [], ◌∷◌, ◌++◌, length, refl, sym, ap, subst}
 use Rattle.std.proofs.Common.{◌∙◌, arith, append-nil}
 use Rattle.store_core.specs.declared.calls.Call.{Call}
 use Rattle.store_core.specs.declared.calls.Call.TheVariants as calls
@@ -15,14 +15,14 @@ use Rattle.state_core.proofs.ListLemmas.{bool_cases}
 use Rattle.turnstile.specs.Rule.{entries_by}
 use Rattle.turnstile.proofs.Kins.{entries_append}
 use Rattle.shared_store.specs.Trails.{entry_client}
-use Rattle.history_core.specs.declared.write_answers.WriteAnswer.{WriteAnswer}
 use Rattle.load_core.specs.declared.polls.Poll.{Poll}
 use Rattle.load_core.specs.declared.polls.Poll.TheVariants as polls
-use Rattle.write_client.specs.declared.writers.Writer.{Writer}
+use Rattle.machine_core.specs.Machines.{Keeps, Words, shard_of}
 use Rattle.machine_core.specs.Polling.{Calls, Polled, Unpolled, Wanted}
-use Rattle.write_client.specs.Machining.{machine}
 use Rattle.crew_core.proofs.Keeping.{entries_joined, of_entries}
-use Rattle.crew.specs.Turns.{HasFailed, MakesFew}
+use Rattle.crew.specs.declared.ends.WorkerTurn.{WorkerTurn}
+use Rattle.crew.specs.declared.ends.WorkerTurn.TheVariants as turns
+use Rattle.crew.specs.Turns.{GoesOnFor, HasFailed, MakesFew}
 use Rattle.crew.proofs.PortKeeping.{none_of, one_of}
 
 -- a reply is Failed only where the call failed
@@ -68,38 +68,60 @@ few_gains client (Some h) now call r (k, is, g) =
     let one : length (entries_by entry_client client (g.others ++ e ∷ [])) ≡ 1 = ap length all in
     (g.others ++ e ∷ [], is ∙ ap Some (g.new_is ∙ entries_joined h g.others (e ∷ [])), omega arith)
 
-pub polled_few : (client : ℕ) (front now : Option History) (old new : Writer) (poll : Poll WriteAnswer) →
-    Polled machine client front now old new poll → MakesFew client front now
-polled_few client front now old new polls.Busy k = subst (λ (f : Option History). MakesFew client front f) (sym k.0) (few_none client front)
-polled_few client front now old new polls.More k = few_gains client front now k.call k.reply k.gains
-polled_few client front now old new polls.Fault k = few_gains client front now k.call k.reply k.gains
-polled_few client front now old new (polls.Damaged damage) k = few_gains client front now k.call k.reply k.gains
-polled_few client front now old new polls.Spent k = few_gains client front now k.call k.reply k.gains
-polled_few client front now old new (polls.Done answer) k = few_gains client front now k.call k.reply k.gains
+module _ {M A : Type 0} (W : Words M A) (client : ℕ) (front now : Option History) (old new : M) where
+  pub polled_few : (poll : Poll A) → Polled W client front now old new poll → MakesFew client front now
+  polled_few polls.Busy k = subst (λ (f : Option History). MakesFew client front f) (sym k.0) (few_none client front)
+  polled_few polls.More k = few_gains client front now k.call k.reply k.gains
+  polled_few polls.Fault k = few_gains client front now k.call k.reply k.gains
+  polled_few (polls.Damaged damage) k = few_gains client front now k.call k.reply k.gains
+  polled_few polls.Spent k = few_gains client front now k.call k.reply k.gains
+  polled_few (polls.Done answer) k = few_gains client front now k.call k.reply k.gains
 
-pub unpolled_few : (client : ℕ) (front now : Option History) (old new : Writer) → Unpolled machine client front now old new →
-    MakesFew client front now
-unpolled_few client front now old new u = by u.how
-  where
-    by : (GrowsByOthers client front now × ((new ≡ old) ⊎ machine.Prepares old new)) ⊎ Wanted machine client front now old new →
-        MakesFew client front now
-    by (inl k) = few_others client front now k.0
-    by (inr k) = few_gains client front now k.call k.reply k.gains
+  pub unpolled_few : Unpolled W client front now old new → MakesFew client front now
+  unpolled_few u = by u.how
+    where
+      by : (GrowsByOthers client front now × ((new ≡ old) ⊎ W.Prepares old new)) ⊎ Wanted W client front now old new →
+          MakesFew client front now
+      by (inl k) = few_others client front now k.0
+      by (inr k) = few_gains client front now k.call k.reply k.gains
 
-pub fault_failed : (client : ℕ) (front now : Option History) (old new : Writer) (poll : Poll WriteAnswer) → poll ≡ polls.Fault →
-    Polled machine client front now old new poll → HasFailed client front now
-fault_failed client front now old new poll is k = go front
-    (subst (λ (p : Poll WriteAnswer). Polled machine client front now old new p) is k)
-  where
-    go : (f : Option History) → Calls machine client f now old new polls.Fault → HasFailed client f now
-    go None k = tt
-    go (Some h) k =
-        let (after, now_is, g) = k.gains in
-        let e : Entry = entry_of client k.call g.outcome in (
-          g.others,
-          e,
-          now_is ∙ ap Some (g.new_is ∙ entries_joined h g.others (e ∷ [])),
-          refl,
-          failed_by
-              (store_after (with_entries h g.others)) k.call g.outcome (sym g.reply_is ∙ k.failed refl),
-        )
+  pub fault_failed : (poll : Poll A) → poll ≡ polls.Fault → Polled W client front now old new poll → HasFailed client front now
+  fault_failed poll is k = go front (subst (λ (p : Poll A). Polled W client front now old new p) is k)
+    where
+      go : (f : Option History) → Calls W client f now old new polls.Fault → HasFailed client f now
+      go None k = tt
+      go (Some h) k =
+          let (after, now_is, g) = k.gains in
+          let e : Entry = entry_of client k.call g.outcome in (
+            g.others,
+            e,
+            now_is ∙ ap Some (g.new_is ∙ entries_joined h g.others (e ∷ [])),
+            refl,
+            failed_by
+                (store_after (with_entries h g.others)) k.call g.outcome (sym g.reply_is ∙ k.failed refl),
+          )
+
+  -- why it goes on
+  pub goes_on_for : (poll : Poll A) (misses misses_now : ℕ) → Polled W client front now old new poll →
+      (poll ≡ polls.Busy → misses < misses_now) → (turn : WorkerTurn) → GoesOnFor client front now misses misses_now turn
+  goes_on_for poll misses misses_now p busy (turns.End end) = tt
+  goes_on_for polls.Busy misses misses_now p busy turns.Again = inl (busy refl)
+  goes_on_for polls.More misses misses_now p busy turns.Again = inr (p.call, p.reply, p.gains)
+  goes_on_for polls.Fault misses misses_now p busy turns.Again = inr (p.call, p.reply, p.gains)
+  goes_on_for (polls.Damaged damage) misses misses_now p busy turns.Again = inr (p.call, p.reply, p.gains)
+  goes_on_for polls.Spent misses misses_now p busy turns.Again = inr (p.call, p.reply, p.gains)
+  goes_on_for (polls.Done answer) misses misses_now p busy turns.Again = inr (p.call, p.reply, p.gains)
+
+  -- the shard stays
+  module _ (K : Keeps W) where
+    called_shard : (poll : Poll A) → Calls W client front now old new poll → shard_of W new ≡ shard_of W old
+    called_shard poll k = K.moved_shard k.ready new k.reply poll k.moves
+        ∙ ap (λ (kept : W.Kept). W.shard kept) (K.prepared_kept old k.ready k.prepares)
+
+    pub polled_shard : (poll : Poll A) → Polled W client front now old new poll → shard_of W new ≡ shard_of W old
+    polled_shard polls.Busy k = ap (λ (kept : W.Kept). W.shard kept) (K.prepared_kept old new k.1)
+    polled_shard polls.More k = called_shard polls.More k
+    polled_shard polls.Fault k = called_shard polls.Fault k
+    polled_shard (polls.Damaged damage) k = called_shard (polls.Damaged damage) k
+    polled_shard polls.Spent k = called_shard polls.Spent k
+    polled_shard (polls.Done answer) k = called_shard (polls.Done answer) k

@@ -52,23 +52,23 @@ use Rattle.token_machine.proofs.Ways.{call_false, call_true, sets_done}
 use Rattle.write_client.specs.declared.writers.Writer.{Writer}
 use Rattle.write_client.specs.Drafting.{HasUpdates, counted_weight}
 use Rattle.write_client.specs.Following.{Follows, FollowsMember}
-use Rattle.write_client.specs.Machining.{machine}
+use Rattle.write_client.specs.Machining.{kept, machine}
 use Rattle.write_client.specs.Writing.{IsAppend, IsOpen, IsSound, Prepares, call_of, shard_of}
 use Rattle.write_client.proofs.Asking.{Asks, append_facts, appends as append_asked, closes, open_asks, opens}
 use Rattle.appends_core.specs.Feeds.{IsFeed, weight_of_all}
 use Rattle.crew_core.specs.KeepingOn.{KeepsOn}
-use Rattle.crew_core.specs.Working.{CarriesWorkers, IsOneOf, IsWorkersEntry, IsWorkersStep}
+use Rattle.crew_core.specs.Working.{CarriesWorkers, IsOneOf, IsWorkersEntry, IsWorkersStep, as_writer}
 use Rattle.crew_core.proofs.Keeping.{on_gains, on_others, on_same}
 use Rattle.crew.specs.declared.ends.WorkerTurn.{WorkerTurn}
 use Rattle.crew.specs.declared.ends.WorkerTurn.TheVariants as turns
 use Rattle.crew.specs.declared.ends.WorkerEnd.TheVariants as ends
 use Rattle.crew.specs.declared.writing.WriterWorker.{WriterWorker}
-use Rattle.crew.specs.Ends.{AsksAt, EndMeans}
+use Rattle.crew.specs.Ends.{AsksAt, WriterMeans}
 use Rattle.crew.specs.Turns.{GoesOnFor, IsFaulted, IsMarked, ReadyAgain, TurnMeans, Turned}
 use Rattle.crew.specs.Writing.{Comes, IsReady, IsTold}
 use Rattle.crew.proofs.Endings.{told_of, with_writer}
 use Rattle.crew.proofs.Among.{among_at}
-use Rattle.crew.proofs.TurnEnds.{fault_failed, polled_few, unpolled_few}
+use Rattle.crew.proofs.RoleKeeping as roles
 
 -- ---- an append of a feed is no heavier than a shard can be
 
@@ -128,13 +128,13 @@ module _ (appends : List FeedAppend) (place : ℕ) (feed : IsFeed appends) (clie
       let member : FollowsMember w own m = subst (λ (q : Option ℕ). IfSome q (FollowsMember w own)) named f.member in member.draws.joined
 
   -- what a Cas carries, once all parts are set
-  step_is_workers : setting.IsDone w.storing.setting → IsWorkersStep appends (shard_of w) own w.storing.trying.step
+  step_is_workers : setting.IsDone w.storing.setting → IsWorkersStep (as_writer appends) (shard_of w) own w.storing.trying.step
   step_is_workers done =
       let (a, is, k) = open_asks w sound opened in
       by a is k (subst (λ (o : Option Asked). IfSome o (AsksAt appends place)) is asked)
     where
       by : (a : Asked) → w.asked ≡ Some a → Asks w a → AsksAt appends place a →
-          IsWorkersStep appends (shard_of w) own w.storing.trying.step
+          IsWorkersStep (as_writer appends) (shard_of w) own w.storing.trying.step
       by a is (opens shard q of step none) at = inl step
       by a is (append_asked rows expected new q k) at =
           inr (inr (append_step rows expected new (is ∙ ap (λ (z : Asked). Some z) q) done k (subst (AsksAt appends place) q at)))
@@ -176,7 +176,7 @@ module _ (appends : List FeedAppend) (place : ℕ) (feed : IsFeed appends) (clie
           (subst setting.IsSound (sym same) sound.storing.setting)
 
   carries_of : (ready : Writer) → ready.storing.setting ≡ w.storing.setting → (call : Call) → call_of ready ≡ Some call →
-      OnlyCarries (shard_of w) w.storing.trying.step call → CarriesWorkers appends (shard_of w) own call
+      OnlyCarries (shard_of w) w.storing.trying.step call → CarriesWorkers (as_writer appends) (shard_of w) own call
   carries_of ready same (calls.Cas at_shard (Some n) bytes) e c =
       (c.0, (c.1.0, w.storing.trying.step, c.1.1, step_is_workers (all_set ready same at_shard (Some n) bytes e)))
   carries_of ready same (calls.Cas at_shard None bytes) e c = tt
@@ -193,146 +193,25 @@ prepared_setting : (w ready : Writer) → Prepares w ready → ready.storing.set
 prepared_setting w ready (s, (t, p, q), e) =
     ap (λ (v : Writer). v.storing.setting) e ∙ ap (λ (z : Storing). z.setting) q
 
--- the entries of others are none of the client's own
-own_same : (client : ℕ) (h : History) (others : List Entry) → OfOthers client others →
-    mine_back h.start (reverse (h.trail ++ others)) client ≡ mine_back h.start (reverse h.trail) client
-own_same client h others of =
-    ap (λ (es : List Entry). mine_back h.start es client) (turned h others)
-    ∙ mine_others h.start client (reverse others) (reverse h.trail) (back others of)
-  where
-    back : (xs : List Entry) → OfOthers client xs → OfOthers client (reverse xs)
-    back [] o = o
-    back (x ∷ xs) o = subst (OfOthers client) (sym (oldest-last x xs))
-        (each_append (λ (e : Entry). e.client ≢ client) (reverse xs) (x ∷ []) (back xs o.1) (o.0, tt))
-
--- what reads carries nothing, and is allowed
-reading_allowed : (own : List Answered) (call : Call) → IsReading call → Allows own call
-reading_allowed mine (calls.Head d) r = tt
-reading_allowed mine (calls.Scan d from) r = tt
-reading_allowed mine (calls.Get key) r = tt
-reading_allowed mine (calls.Cas d n bytes) r = absurd r
-reading_allowed mine (calls.Truncate d below) r = absurd r
-reading_allowed mine (calls.Set key bytes) r = absurd r
-reading_allowed mine (calls.Delete key) r = absurd r
-
-reading_carries : (appends : List FeedAppend) (shard : ShardId) (own : List Answered) (call : Call) → IsReading call →
-    CarriesWorkers appends shard own call
-reading_carries appends shard mine (calls.Head d) r = tt
-reading_carries appends shard mine (calls.Scan d from) r = tt
-reading_carries appends shard mine (calls.Get key) r = tt
-reading_carries appends shard mine (calls.Cas d n bytes) r = absurd r
-reading_carries appends shard mine (calls.Truncate d below) r = absurd r
-reading_carries appends shard mine (calls.Set key bytes) r = absurd r
-reading_carries appends shard mine (calls.Delete key) r = absurd r
-
-module _ (appends : List FeedAppend) (place : ℕ) (feed : IsFeed appends) (client : ℕ) (front now : Option History) (w : Writer)
-    (sound : IsSound w) (opened : IsOpen w) (asked : IfSome w.asked (AsksAt appends place))
-    (follows : FollowsWhere machine client front w) where
-  abbrev shard : ShardId
-  shard = shard_of w
-
-  -- one call, if it is allowed and carries what the command tries
-  one_call : (ready : Writer) → Prepares w ready → (call : Call) (reply : Reply) → call_of ready ≡ Some call →
-      OnlyCarries shard w.storing.trying.step call →
-      WhereLawful shard front (Backwards (λ start es list. Allows (mine_back start es client) call)) →
-      GainsWhereTold client front now call reply → KeepsOn (IsWorkersEntry appends shard) shard client front now
-  one_call ready prepares call reply e carries allowed gains =
-      on_gains (IsWorkersEntry appends shard) shard client front now call reply gains (λ h is others o list of st l.
-      let lawful : Lawful h = prefix_lawful h others l in
-      let f : Follows client w h.start (reverse h.trail) =
-      subst (λ (g : Option History). FollowsWhere machine client g w) is follows list st lawful in
-      let may : Allows (mine_back h.start (reverse h.trail) client) call =
-      subst (λ (g : Option History). WhereLawful shard g (Backwards (λ start es us. Allows (mine_back start es client) call)))
-      is allowed list st lawful in
-      record {
-        allowed = subst (λ (own : List Answered). Allows own call) (sym (own_same client h others of)) may;
-        carries = subst (λ (own : List Answered). CarriesWorkers appends shard own call) (sym (own_same client h others of))
-            (carries_of appends place feed client w sound opened asked h.start (reverse h.trail) f ready
-            (prepared_setting w ready prepares) call e carries);
-      })
-
-  by_calls : (new : Writer) (poll : Poll WriteAnswer) → Calls machine client front now w new poll →
-      KeepsOn (IsWorkersEntry appends shard) shard client front now
-  by_calls new poll k = one_call k.ready k.prepares k.call k.reply k.call_is k.effect.carries k.allowed k.gains
-
-  pub polled_keeps : (new : Writer) (poll : Poll WriteAnswer) → Polled machine client front now w new poll →
-      KeepsOn (IsWorkersEntry appends shard) shard client front now
-  polled_keeps new polls.Busy k =
-      subst (λ (f : Option History). KeepsOn (IsWorkersEntry appends shard) shard client front f) (sym k.0)
-      (on_same (IsWorkersEntry appends shard) shard client front)
-  polled_keeps new polls.More k = by_calls new polls.More k
-  polled_keeps new polls.Fault k = by_calls new polls.Fault k
-  polled_keeps new (polls.Damaged damage) k = by_calls new (polls.Damaged damage) k
-  polled_keeps new polls.Spent k = by_calls new polls.Spent k
-  polled_keeps new (polls.Done answer) k = by_calls new (polls.Done answer) k
-
-  -- after want of memory
-  pub unpolled_keeps : (new : Writer) → Unpolled machine client front now w new →
-      KeepsOn (IsWorkersEntry appends shard) shard client front now
-  unpolled_keeps new u = by u.how
-    where
-      by : (GrowsByOthers client front now × ((new ≡ w) ⊎ Prepares w new)) ⊎ Wanted machine client front now w new →
-          KeepsOn (IsWorkersEntry appends shard) shard client front now
-      by (inl k) = on_others (IsWorkersEntry appends shard) shard client front now k.0
-      by (inr k) =
-          on_gains (IsWorkersEntry appends shard) shard client front now k.call k.reply k.gains (λ h at others o list of st l. record {
-            allowed = reading_allowed (mine_back h.start (reverse (h.trail ++ others)) client) k.call k.reads;
-            carries = reading_carries appends shard (mine_back h.start (reverse (h.trail ++ others)) client) k.call k.reads;
-          })
-
--- ---- why it goes on
-
-pub goes_on_for : (client : ℕ) (front now : Option History) (old new : Writer) (poll : Poll WriteAnswer) (misses misses_now : ℕ) →
-    Polled machine client front now old new poll → (poll ≡ polls.Busy → misses < misses_now) → (turn : WorkerTurn) →
-    GoesOnFor client front now misses misses_now turn
-goes_on_for client front now old new poll misses misses_now p busy (turns.End end) = tt
-goes_on_for client front now old new polls.Busy misses misses_now p busy turns.Again = inl (busy refl)
-goes_on_for client front now old new polls.More misses misses_now p busy turns.Again = inr (p.call, p.reply, p.gains)
-goes_on_for client front now old new polls.Fault misses misses_now p busy turns.Again = inr (p.call, p.reply, p.gains)
-goes_on_for client front now old new (polls.Damaged damage) misses misses_now p busy turns.Again = inr (p.call, p.reply, p.gains)
-goes_on_for client front now old new polls.Spent misses misses_now p busy turns.Again = inr (p.call, p.reply, p.gains)
-goes_on_for client front now old new (polls.Done answer) misses misses_now p busy turns.Again = inr (p.call, p.reply, p.gains)
+-- what a poll of the worker's writer calls
+pub carry : (appends : List FeedAppend) (place : ℕ) (shard : ShardId) (feed : IsFeed appends) (client : ℕ) (w : Writer)
+    (of_shard : shard_of w ≡ shard) (sound : IsSound w) (opened : IsOpen w) (asked : IfSome w.asked (AsksAt appends place)) →
+    (ready : Writer) → Prepares w ready → (call : Call) → call_of ready ≡ Some call → (reply : Reply) (poll : Poll WriteAnswer) →
+    machine.Effect (kept w) call reply poll → (start : Stored) (es : List Entry) → Follows client w start es →
+    CarriesWorkers (as_writer appends) shard (mine_back start es client) call
+carry appends place shard feed client w of_shard sound opened asked ready prepares call is reply poll did start es f =
+    subst (λ (d : ShardId). CarriesWorkers (as_writer appends) d (mine_back start es client) call) of_shard
+    (carries_of appends place feed client w sound opened asked start es f ready (prepared_setting w ready prepares) call is did.carries)
 
 -- ---- a turn
 
-prepared_shard : (t new : Trying) → trying.Prepares t new → new.loader.shard ≡ t.loader.shard
-prepared_shard t new p = go t.next p
-  where
-    on : (cached : Option ShardState) → trying.PreparesOn cached t new → new.loader.shard ≡ t.loader.shard
-    on None e = ap (λ (z : Trying). z.loader.shard) e
-    on (Some s) (a, attempt, e) = ap (λ (z : Trying). z.loader.shard) e
-
-    go : (next : Next) → trying.PreparesBy next t new → new.loader.shard ≡ t.loader.shard
-    go nexts.Attempt h = on t.loader.cached h
-    go nexts.Scan e = ap (λ (z : Trying). z.loader.shard) e
-    go (nexts.Cas r) e = ap (λ (z : Trying). z.loader.shard) e
-
--- preparing changes no shard
-storing_shard : (old new : Storing) → storings.Prepares old new → new.trying.loader.shard ≡ old.trying.loader.shard
-storing_shard old new (t, p, e) = ap (λ (z : Storing). z.trying.loader.shard) e ∙ prepared_shard old.trying t p
-
-called_shard : (client : ℕ) (front now : Option History) (old new : Writer) (poll : Poll WriteAnswer) →
-    Calls machine client front now old new poll → shard_of new ≡ shard_of old
-called_shard client front now old new poll k =
-    let (s, p, e) = k.prepares in
-    keeps.moved_shard k.ready new k.reply poll k.moves ∙ ap shard_of e ∙ storing_shard old.storing s p
-
-pub polled_shard : (client : ℕ) (front now : Option History) (old new : Writer) (poll : Poll WriteAnswer) →
-    Polled machine client front now old new poll → shard_of new ≡ shard_of old
-polled_shard client front now old new polls.Busy k = let (s, p, e) = k.1 in ap shard_of e ∙ storing_shard old.storing s p
-polled_shard client front now old new polls.More k = called_shard client front now old new polls.More k
-polled_shard client front now old new polls.Fault k = called_shard client front now old new polls.Fault k
-polled_shard client front now old new (polls.Damaged damage) k = called_shard client front now old new (polls.Damaged damage) k
-polled_shard client front now old new polls.Spent k = called_shard client front now old new polls.Spent k
-polled_shard client front now old new (polls.Done answer) k = called_shard client front now old new (polls.Done answer) k
-
 -- what a turn comes to says what its end means
 pub comes_means : (appends : List FeedAppend) (shard : ShardId) (client : ℕ) (front : Option History) (w : WriterWorker)
-    (turn : WorkerTurn) → w.appends.now ≡ appends → w.shard ≡ shard → Comes client front w turn → TurnMeans appends shard client front turn
+    (turn : WorkerTurn) → w.appends.now ≡ appends → w.shard ≡ shard → Comes client front w turn → TurnMeans (as_writer appends) shard client front turn
 comes_means appends d client front w turns.Again same_appends same_shard k = tt
 comes_means appends d client front w (turns.End end) same_appends same_shard k =
-    subst (λ (s : ShardId). EndMeans appends s client front end) same_shard
-    (subst (λ (xs : List FeedAppend). EndMeans xs w.shard client front end) same_appends k)
+    subst (λ (s : ShardId). WriterMeans appends s client front end) same_shard
+    (subst (λ (xs : List FeedAppend). WriterMeans xs w.shard client front end) same_appends k)
 
 pub comes_ready : (client : ℕ) (front : Option History) (w : WriterWorker) (turn : WorkerTurn) → Comes client front w turn →
     ReadyAgain (IsReady client front w) turn
@@ -341,50 +220,39 @@ comes_ready client front w (turns.End end) k = tt
 
 module _ (client : ℕ) (front now : Option History) (w : WriterWorker) (feed : IsFeed w.appends.now) (ready : IsReady client front w)
     (misses misses_now : ℕ) where
-  on_shard : KeepsOn (IsWorkersEntry w.appends.now (shard_of w.writer)) (shard_of w.writer) client front now →
-      KeepsOn (IsWorkersEntry w.appends.now w.shard) w.shard client front now
-  on_shard k = subst (λ (s : ShardId). KeepsOn (IsWorkersEntry w.appends.now s) s client front now) ready.of_shard k
+  abbrev Carry : Type 0
+  Carry = (r : Writer) → Prepares w.writer r → (call : Call) → call_of r ≡ Some call → (reply : Reply) (poll : Poll WriteAnswer) →
+      machine.Effect (kept w.writer) call reply poll → (start : Stored) (es : List Entry) → Follows client w.writer start es →
+      CarriesWorkers (as_writer w.appends.now) w.shard (mine_back start es client) call
+
+  carries : Carry
+  carries = carry w.appends.now w.place w.shard feed client w.writer ready.of_shard ready.sound ready.opened ready.asked
 
   pub worker_keeps : (new : Writer) (poll : Poll WriteAnswer) → Polled machine client front now w.writer new poll →
-      KeepsOn (IsWorkersEntry w.appends.now w.shard) w.shard client front now
-  worker_keeps new poll k =
-      on_shard (polled_keeps w.appends.now w.place feed client front now w.writer ready.sound ready.opened ready.asked ready.follows new
-      poll k)
+      KeepsOn (IsWorkersEntry (as_writer w.appends.now) w.shard) w.shard client front now
+  worker_keeps new poll k = roles.polled_keeps machine (as_writer w.appends.now) w.shard client front now w.writer ready.of_shard
+      ready.follows carries new poll k
 
   -- it ends for want of memory
   pub unpolled_turned : (new : Writer) → Unpolled machine client front now w.writer new →
-      Turned w.appends.now w.shard client front now misses misses_now (turns.End ends.Memory)
-  unpolled_turned new u = record {
-    keeps = on_shard (unpolled_keeps w.appends.now w.place feed client front now w.writer ready.sound ready.opened ready.asked
-        ready.follows new u);
-    few = unpolled_few client front now w.writer new u;
-    cause = tt;
-    fault = λ m. absurd m;
-    means = tt;
-  }
+      Turned (as_writer w.appends.now) w.shard client front now misses misses_now (turns.End ends.Memory)
+  unpolled_turned new u =
+      roles.unpolled_turned machine (as_writer w.appends.now) w.shard client front now w.writer new u misses misses_now tt
 
   -- or since it has made as many calls as can be counted
   pub counted_turned : (new : Writer) (poll : Poll WriteAnswer) → Polled machine client front now w.writer new poll →
-      Turned w.appends.now w.shard client front now misses misses_now (turns.End ends.Memory)
-  counted_turned new poll k = record {
-    keeps = worker_keeps new poll k;
-    few = polled_few client front now w.writer new poll k;
-    cause = tt;
-    fault = λ m. absurd m;
-    means = tt;
-  }
+      Turned (as_writer w.appends.now) w.shard client front now misses misses_now (turns.End ends.Memory)
+  counted_turned new poll k = roles.counted_turned machine (as_writer w.appends.now) w.shard client front now w.writer ready.of_shard
+      ready.follows carries new poll misses misses_now k tt
 
   pub polled_turned : (new : Writer) (poll : Poll WriteAnswer) (v : WriterWorker) (turn : WorkerTurn) →
       Polled machine client front now w.writer new poll → (poll ≡ polls.Busy → misses < misses_now) →
       (IsMarked turn → (poll ≡ polls.Fault) × IsFaulted turn) → v.appends.now ≡ w.appends.now → v.shard ≡ w.shard →
-      Comes client now v turn → Turned w.appends.now w.shard client front now misses misses_now turn
-  polled_turned new poll v turn k busy fault same_appends same_shard comes = record {
-    keeps = worker_keeps new poll k;
-    few = polled_few client front now w.writer new poll k;
-    cause = goes_on_for client front now w.writer new poll misses misses_now k busy turn;
-    fault = λ m. let f = fault m in (fault_failed client front now w.writer new poll f.0 k, f.1);
-    means = comes_means w.appends.now w.shard client now v turn same_appends same_shard comes;
-  }
+      Comes client now v turn → Turned (as_writer w.appends.now) w.shard client front now misses misses_now turn
+  polled_turned new poll v turn k busy fault same_appends same_shard comes =
+      roles.polled_turned machine (as_writer w.appends.now) w.shard client front now w.writer ready.of_shard ready.follows carries
+      new poll turn misses misses_now k busy fault
+      (comes_means w.appends.now w.shard client now v turn same_appends same_shard comes)
 
 -- what a worker comes to after a poll that could still be counted
 pub went : (w : WriterWorker) (client : ℕ) (front now : Option History) (feed : IsFeed w.appends.now) (ready : IsReady client front w)

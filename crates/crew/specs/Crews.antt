@@ -1,9 +1,7 @@
 -- What a crew makes of its store. docs/DEFINITIONS.md, "Crews that run".
 use Rattle.std.specs.Prelude.{◌≡◌, Option, Some, None, List, ◌∷◌, ◌++◌, reverse}
 use Rattle.update_core.specs.declared.updates.Update.{Update}
-use Rattle.update_core.specs.declared.appends.FeedAppend.{FeedAppend}
 use Rattle.update_core.specs.Collections.{Collection as PlainCollection}
-use Rattle.store_core.specs.declared.shards.ShardId.{ShardId}
 use Rattle.store_core.specs.declared.entries.Entry.{Entry}
 use Rattle.store_core.specs.Histories.{History}
 use Rattle.store_core.specs.Ports.{with_entries}
@@ -11,23 +9,25 @@ use Rattle.history_core.specs.Discipline.{Lawful}
 use Rattle.history_core.specs.Stands.{StandsFor}
 use Rattle.crew_core.specs.Competing.{HasAppended, HasCollection}
 use Rattle.crew_core.specs.Working.{IsWorkersEntry}
+use Rattle.crew.specs.declared.plans.Plan.{Plan}
+use Rattle.crew.specs.Plans.{role_in}
 
 -- The history that a crew left begins with the one that it found. Where that is lawful and its start stands for a list, so is what it
 -- left; each new entry is a worker's; and at each place the collection has, past what it had, the first few of the appends from its
 -- upper on.
-pub record CrewRan (appends : List FeedAppend) (shard : ShardId) (before now : History) : Type 0 where
+pub record CrewRan (plan : Plan) (before now : History) : Type 0 where
   pub gain : List Entry
   pub now_is : now ≡ with_entries before gain
-  pub lawful : (list : List Update) → StandsFor before.start shard list → Lawful before → Lawful now
-  pub each : (list : List Update) → StandsFor before.start shard list → Lawful before →
+  pub lawful : (list : List Update) → StandsFor before.start plan.shard list → Lawful before → Lawful now
+  pub each : (list : List Update) → StandsFor before.start plan.shard list → Lawful before →
       (older newer : List Entry) (e : Entry) → gain ≡ older ++ e ∷ newer →
-      IsWorkersEntry appends shard before.start (reverse (before.trail ++ older)) e
-  pub collection : (list : List Update) → StandsFor before.start shard list → Lawful before →
-      (c : PlainCollection) → HasCollection list before.start shard (reverse before.trail) c →
+      IsWorkersEntry (role_in plan e.client) plan.shard before.start (reverse (before.trail ++ older)) e
+  pub collection : (list : List Update) → StandsFor before.start plan.shard list → Lawful before →
+      (c : PlainCollection) → HasCollection list before.start plan.shard (reverse before.trail) c →
       (older newer : List Entry) → gain ≡ older ++ newer →
-      (d : PlainCollection) × HasCollection list before.start shard (reverse (before.trail ++ older)) d × HasAppended appends c d
+      (d : PlainCollection) × HasCollection list before.start plan.shard (reverse (before.trail ++ older)) d × HasAppended plan.appends c d
 
 -- the same where the history is told
-abbrev pub CrewRanOn : List FeedAppend → ShardId → Option History → Option History → Type 0
-CrewRanOn appends shard None now = now ≡ None
-CrewRanOn appends shard (Some before) now = (after : History) × (now ≡ Some after) × CrewRan appends shard before after
+abbrev pub CrewRanOn : Plan → Option History → Option History → Type 0
+CrewRanOn plan None now = now ≡ None
+CrewRanOn plan (Some before) now = (after : History) × (now ≡ Some after) × CrewRan plan before after

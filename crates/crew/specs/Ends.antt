@@ -12,11 +12,15 @@ use Rattle.history_core.specs.declared.asked.Asked.{Asked}
 use Rattle.history_core.specs.declared.asked.Asked.TheVariants as asks
 use Rattle.history_core.specs.declared.write_answers.WriteAnswer.{WriteAnswer}
 use Rattle.history_core.specs.declared.write_answers.WriteAnswer.TheVariants as answers
+use Rattle.history_core.specs.declared.merge_answers.MergeAnswer.{MergeAnswer}
+use Rattle.history_core.specs.declared.merge_answers.MergeAnswer.TheVariants as merges
 use Rattle.history_core.specs.Laws.{LastIs}
 use Rattle.history_core.specs.Legal.{Command, LegalWriteBack}
+use Rattle.history_core.specs.Upkeep.{LegalMergeBack}
 use Rattle.load_core.specs.Fronts.{Backwards, WhereLawful}
 use Rattle.appends_core.specs.Feeds.{end_of_feed}
 use Rattle.crew_core.specs.Completing.{IsBound}
+use Rattle.crew_core.specs.Working.{Role, as_compactor, as_writer}
 use Rattle.crew.specs.declared.ends.WorkerEnd.{WorkerEnd}
 use Rattle.crew.specs.declared.ends.WorkerEnd.TheVariants as ends
 
@@ -63,11 +67,53 @@ abbrev pub WasAnswered : List FeedAppend → ShardId → ℕ → WriteAnswer →
 WasAnswered appends shard client answer front =
     WhereLawful shard front (Backwards (Once (λ start es list. (place : ℕ) × IsAnswered appends place shard client answer start es list)))
 
--- What an end says of the front: finished over appends, that the upper was at the feed's end; a misfit, that it was at one that is no
--- bound of the feed; MembersFull and Heavy, that this answer was legal to a command of the worker.
-abbrev pub EndMeans : List FeedAppend → ShardId → ℕ → Option History → WorkerEnd → Type 0
-EndMeans appends shard client front ends.Finished = appends ≢ [] → Reached shard (end_of_feed appends) front
-EndMeans appends shard client front (ends.Misfit upper) = (¬ IsBound appends upper) × Reached shard upper front
-EndMeans appends shard client front (ends.MembersFull version) = WasAnswered appends shard client (answers.MembersFull version) front
-EndMeans appends shard client front (ends.Heavy weight) = WasAnswered appends shard client (answers.Heavy weight) front
-EndMeans appends shard client front _ = ⊤
+-- what a compactor of a crew may ask: that it opens, a merge, that it closes
+abbrev pub AsksToMerge : Asked → Type 0
+AsksToMerge (asks.OpenCompactor shard now lease) = ⊤
+AsksToMerge asks.Merge = ⊤
+AsksToMerge asks.CloseCompactor = ⊤
+AsksToMerge _ = ⊥
+
+-- the answer is legal to such a command of this client
+pub record IsMergeAnswered (shard : ShardId) (client : ℕ) (answer : MergeAnswer) (start : Stored) (es : List Entry)
+    (list : List Update) : Type 0 where
+  pub command : Command
+  pub client_is : command.client ≡ client
+  pub shard_is : command.shard ≡ shard
+  pub may : AsksToMerge command.asked
+  pub legal : LegalMergeBack start es command answer
+
+-- no pair was due
+abbrev pub NothingWasDue : ShardId → ℕ → Stored → List Entry → List Update → Type 0
+NothingWasDue shard client start es list =
+    (version : ℕ) × IsMergeAnswered shard client (merges.NothingDue version) start es list
+
+-- it has closed, and at some place until then no pair was due
+pub record HasMerged (shard : ShardId) (client : ℕ) (start : Stored) (es : List Entry) (list : List Update) : Type 0 where
+  pub version : ℕ
+  pub closed : IsMergeAnswered shard client (merges.Closed version) start es list
+  pub none : Once (NothingWasDue shard client) start es list
+
+-- What the end of a writer says of the front: finished over appends, that the upper was at the feed's end; a misfit, that it was at one
+-- that is no bound of the feed; MembersFull and Heavy, that this answer was legal to a command of the worker.
+abbrev pub WriterMeans : List FeedAppend → ShardId → ℕ → Option History → WorkerEnd → Type 0
+WriterMeans appends shard client front ends.Finished = appends ≢ [] → Reached shard (end_of_feed appends) front
+WriterMeans appends shard client front (ends.Misfit upper) = (¬ IsBound appends upper) × Reached shard upper front
+WriterMeans appends shard client front (ends.MembersFull version) = WasAnswered appends shard client (answers.MembersFull version) front
+WriterMeans appends shard client front (ends.Heavy weight) = WasAnswered appends shard client (answers.Heavy weight) front
+WriterMeans appends shard client front _ = ⊤
+
+-- Of a compactor: finished, that no pair was due to a merge of it, and that it has closed since; MembersFull, that this answer was legal.
+-- It is no misfit, and nothing of it is too heavy.
+abbrev pub CompactorMeans : ShardId → ℕ → Option History → WorkerEnd → Type 0
+CompactorMeans shard client front ends.Finished = WhereLawful shard front (Backwards (Once (HasMerged shard client)))
+CompactorMeans shard client front (ends.MembersFull version) =
+    WhereLawful shard front (Backwards (Once (IsMergeAnswered shard client (merges.MembersFull version))))
+CompactorMeans shard client front (ends.Misfit upper) = ⊥
+CompactorMeans shard client front (ends.Heavy weight) = ⊥
+CompactorMeans shard client front _ = ⊤
+
+-- what an end says, by what the worker is for
+abbrev pub EndMeans : Role → ShardId → ℕ → Option History → WorkerEnd → Type 0
+EndMeans (as_writer appends) shard client front end = WriterMeans appends shard client front end
+EndMeans as_compactor shard client front end = CompactorMeans shard client front end

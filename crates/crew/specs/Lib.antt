@@ -1,6 +1,8 @@
 pub mod Stops
+pub mod Plans
 pub mod Ends
 pub mod Writing
+pub mod Merging
 pub mod Turns
 pub mod Posts
 pub mod Looping

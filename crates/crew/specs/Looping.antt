@@ -1,6 +1,5 @@
 -- A worker in its loop.
 use Rattle.std.specs.Prelude.{⊤, ◌≡◌, ◌≢◌, ℕ, ◌<◌, ◌≤◌, ◌^◌, Option, Some, List, [], ◌∷◌, ◌++◌}
-use Rattle.update_core.specs.declared.appends.FeedAppend.{FeedAppend}
 use Rattle.store_core.specs.declared.shards.ShardId.{ShardId}
 use Rattle.store_core.specs.declared.entries.Entry.{Entry}
 use Rattle.store_core.specs.declared.outcomes.Outcome.TheVariants.{Took}
@@ -9,6 +8,7 @@ use Rattle.turnstile.specs.declared.views.View.{View}
 use Rattle.turnstile.specs.Rule.{entries_by}
 use Rattle.shared_store.specs.Fronts.{front_of}
 use Rattle.shared_store.specs.Trails.{entry_client}
+use Rattle.crew_core.specs.Working.{Role}
 use Rattle.crew.specs.declared.ends.WorkerEnd.{WorkerEnd}
 use Rattle.crew.specs.declared.ends.WorkerEnd.TheVariants as ends
 use Rattle.crew.specs.Ends.{EndMeans}
@@ -32,7 +32,7 @@ module _ {S : Type 0} where
   EndCounts history stop v _ = ⊤
 
   -- what an end says of the pass, and of its front
-  pub record EndShown (history : S → Option History) (appends : List FeedAppend) (shard : ShardId) (stop : Option ℕ) (v : View S Entry)
+  pub record EndShown (history : S → Option History) (role : Role) (shard : ShardId) (stop : Option ℕ) (v : View S Entry)
       (end : WorkerEnd) : Type 0 where
     pub counts : EndCounts history stop v end
-    pub means : EndMeans appends shard v.number (front_of history v) end
+    pub means : EndMeans role shard v.number (front_of history v) end

@@ -16,13 +16,14 @@ use Rattle.shared_store.specs.declared.counted_stores.CountedStore.{CountedStore
 use Rattle.shared_store.specs.Passes.{told_of}
 use Rattle.shared_store.specs.Trails.{entry_client}
 use Rattle.crew_core.specs.Keeping.{Keeps}
-use Rattle.crew_core.specs.Working.{IsWorkersEntry}
+use Rattle.crew_core.specs.Working.{IsWorkersEntry, Role, role_of}
 use Rattle.crew.specs.declared.ends.WorkerEnd.{WorkerEnd}
 use Rattle.crew.specs.declared.ends.WorkerEnd.TheVariants as ends
 use Rattle.crew.specs.declared.seats.Seat.{Seat}
-use Rattle.crew.specs.declared.stops.Stop.{Stop}
+use Rattle.crew.specs.declared.plans.Plan.{Plan}
 use Rattle.crew.specs.Ends.{EndMeans}
 use Rattle.crew.specs.Looping.{EndShown, LastFailed}
+use Rattle.crew.specs.Plans.{client_of, job_in, job_of}
 use Rattle.crew.specs.Posts.{opened}
 use Rattle.crew.specs.Stops.{stop_of}
 
@@ -34,27 +35,32 @@ CountsAs client stop _ gain = ⊤
 
 -- What an end says of a history to which these entries have come: Stopped, that its client has made as many calls as its stop number
 -- says; Faulted, that the client's last call failed; and what it means.
-pub record EndsAs (appends : List FeedAppend) (shard : ShardId) (client : ℕ) (stop : Option ℕ) (end : WorkerEnd) (h : History)
+pub record EndsAs (role : Role) (shard : ShardId) (client : ℕ) (stop : Option ℕ) (end : WorkerEnd) (h : History)
     (gain : List Entry) : Type 0 where
   pub counts : CountsAs client stop end gain
-  pub means : EndMeans appends shard client (Some (with_entries h gain)) end
+  pub means : EndMeans role shard client (Some (with_entries h gain)) end
 
--- the same of the ends of the workers from this one on, each of which is the client one above its number
-abbrev pub AllEndAs : List FeedAppend → ShardId → List Stop → ℕ → List WorkerEnd → History → List Entry → Type 0
-AllEndAs appends shard stops worker [] h gain = ⊤
-AllEndAs appends shard stops worker (e ∷ more) h gain =
-    EndsAs appends shard (worker + 1) (stop_of stops worker) e h gain × AllEndAs appends shard stops (worker + 1) more h gain
+-- the same of the ends of a plan's workers from this one on
+abbrev pub AllEndAs : Plan → ℕ → List WorkerEnd → History → List Entry → Type 0
+AllEndAs plan worker [] h gain = ⊤
+AllEndAs plan worker (e ∷ more) h gain =
+    EndsAs (role_of (job_of plan worker) plan.appends) plan.shard (client_of plan worker) (stop_of plan.stops worker) e h gain ×
+    AllEndAs plan (worker + 1) more h gain
 
 -- and where both histories are told
-abbrev pub EndsOn : List FeedAppend → ShardId → List Stop → Option History → Option History → List WorkerEnd → Type 0
-EndsOn appends shard stops before now ends =
-    (h : History) (gain : List Entry) → before ≡ Some h → now ≡ Some (with_entries h gain) → AllEndAs appends shard stops 0 ends h gain
+abbrev pub EndsOn : Plan → Option History → Option History → List WorkerEnd → Type 0
+EndsOn plan before now ends =
+    (h : History) (gain : List Entry) → before ≡ Some h → now ≡ Some (with_entries h gain) → AllEndAs plan 0 ends h gain
 
 module _ {S : Type 0} where
-  -- each entry that the pass has seen of a number that it answers for is a worker's
-  abbrev pub KinKeeps : List FeedAppend → ShardId → (S → Option History) → View S Entry → Type 0
-  KinKeeps appends shard history v =
-      (n : ℕ) → 0 < times n v.kin → (h : History) → opened history v ≡ Some h → Keeps (IsWorkersEntry appends shard) shard n h v.gain
+  -- each entry that the pass has seen of a number that it answers for is one of a worker in that number's role
+  abbrev pub KinKeeps : (ℕ → Role) → ShardId → (S → Option History) → View S Entry → Type 0
+  KinKeeps roles shard history v =
+      (n : ℕ) → 0 < times n v.kin → (h : History) → opened history v ≡ Some h → Keeps (IsWorkersEntry (roles n) shard) shard n h v.gain
+
+  -- the pass answers for no number but its own
+  abbrev pub IsAlone : View S Entry → Type 0
+  IsAlone v = (n : ℕ) → 0 < times n v.kin → v.number ≡ n
 
   -- of each number that v answers for w answers too, and has seen the same entries
   abbrev pub Shows : View S Entry → View S Entry → Type 0
@@ -88,8 +94,9 @@ module _ {S : Type 0} {G : Ghosts S} where
     pub pass : Pass (CountedStore S G) S Entry
     pub there : s.pass ≡ Some pass
     pub is_pass : IsPassOf told_of entry_client t pass
-    pub keeps : KinKeeps appends shard G.history (view pass)
-    pub shown : EndShown G.history appends shard s.stop (view pass) s.end
+    pub alone : IsAlone (view pass)
+    pub keeps : KinKeeps (λ n. role_of s.job appends) shard G.history (view pass)
+    pub shown : EndShown G.history (role_of s.job appends) shard s.stop (view pass) s.end
 
   -- the share of a seat's pass
   abbrev pub share_in : Option (Pass (CountedStore S G) S Entry) → ℕ
@@ -110,14 +117,20 @@ module _ {S : Type 0} {G : Ghosts S} where
   NumberedFrom n [] = ⊤
   NumberedFrom n (s ∷ ss) = HasNumber n s × NumberedFrom (n + 1) ss
 
-  -- the seat is the worker's, with its stop number
-  abbrev pub IsPlaceFor : List Stop → ℕ → Seat S G → Type 0
-  IsPlaceFor stops worker s = (s.worker ≡ worker) × (s.stop ≡ stop_of stops worker)
+  -- the seat is the worker's, with its job and its stop number
+  pub record IsPlaceFor (plan : Plan) (worker : ℕ) (s : Seat S G) : Type 0 where
+    pub number : s.worker ≡ worker
+    pub stop : s.stop ≡ stop_of plan.stops worker
+    pub job : s.job ≡ job_of plan worker
 
   -- the seats are those of the workers from this one on
-  abbrev pub PlacedFrom : List Stop → ℕ → List (Seat S G) → Type 0
-  PlacedFrom stops worker [] = ⊤
-  PlacedFrom stops worker (s ∷ ss) = IsPlaceFor stops worker s × PlacedFrom stops (worker + 1) ss
+  abbrev pub PlacedFrom : Plan → ℕ → List (Seat S G) → Type 0
+  PlacedFrom plan worker [] = ⊤
+  PlacedFrom plan worker (s ∷ ss) = IsPlaceFor plan worker s × PlacedFrom plan (worker + 1) ss
+
+  -- the seat's job is that of the client whose number its pass has
+  abbrev pub Suits : Plan → Seat S G → Type 0
+  Suits plan s = IfSome s.pass (λ p. s.job ≡ job_in plan (view p).number)
 
   -- the ends of all
   abbrev pub ends_of : List (Seat S G) → List WorkerEnd
@@ -132,6 +145,7 @@ module _ {S : Type 0} {G : Ghosts S} where
     pub number : (n : ℕ) → HasNumber n old → HasNumber n new
     pub worker : new.worker ≡ old.worker
     pub stop : new.stop ≡ old.stop
+    pub job : new.job ≡ old.job
 
   -- the pass with the view w shows what the seat's pass shows
   abbrev pub ShowsSeat : View S Entry → Seat S G → Type 0

@@ -1,6 +1,5 @@
 -- What a turn of any worker does.
 use Rattle.std.specs.Prelude.{⊤, ◌≡◌, ◌≢◌, ◌⊎◌, ℕ, ◌<◌, ◌≤◌, Option, Some, None, List, [], ◌∷◌, ◌++◌, length}
-use Rattle.update_core.specs.declared.appends.FeedAppend.{FeedAppend}
 use Rattle.store_core.specs.declared.shards.ShardId.{ShardId}
 use Rattle.store_core.specs.declared.calls.Call.{Call}
 use Rattle.store_core.specs.declared.replies.Reply.{Reply}
@@ -11,7 +10,7 @@ use Rattle.store_core.specs.Ports.{GainsWhereTold, with_entries}
 use Rattle.turnstile.specs.Rule.{entries_by}
 use Rattle.shared_store.specs.Trails.{entry_client}
 use Rattle.crew_core.specs.KeepingOn.{KeepsOn}
-use Rattle.crew_core.specs.Working.{IsWorkersEntry}
+use Rattle.crew_core.specs.Working.{IsWorkersEntry, Role}
 use Rattle.crew.specs.declared.ends.WorkerEnd.TheVariants as ends
 use Rattle.crew.specs.declared.ends.WorkerTurn.{WorkerTurn}
 use Rattle.crew.specs.declared.ends.WorkerTurn.TheVariants as turns
@@ -50,19 +49,19 @@ MakesFew client (Some h) now =
     (more : List Entry) × (now ≡ Some (with_entries h more)) × (length (entries_by entry_client client more) ≤ 1)
 
 -- what a turn's end says of the front
-abbrev pub TurnMeans : List FeedAppend → ShardId → ℕ → Option History → WorkerTurn → Type 0
-TurnMeans appends shard client front turns.Again = ⊤
-TurnMeans appends shard client front (turns.End end) = EndMeans appends shard client front end
+abbrev pub TurnMeans : Role → ShardId → ℕ → Option History → WorkerTurn → Type 0
+TurnMeans role shard client front turns.Again = ⊤
+TurnMeans role shard client front (turns.End end) = EndMeans role shard client front end
 
 -- One turn: what came is a worker's, and one call at most; it goes on only for a cause; Faulted comes by a failed call alone, and
 -- Stopped never.
-pub record Turned (appends : List FeedAppend) (shard : ShardId) (client : ℕ) (front now : Option History) (misses misses_now : ℕ)
+pub record Turned (role : Role) (shard : ShardId) (client : ℕ) (front now : Option History) (misses misses_now : ℕ)
     (turn : WorkerTurn) : Type 0 where
-  pub keeps : KeepsOn (IsWorkersEntry appends shard) shard client front now
+  pub keeps : KeepsOn (IsWorkersEntry role shard) shard client front now
   pub few : MakesFew client front now
   pub cause : GoesOnFor client front now misses misses_now turn
   pub fault : IsMarked turn → HasFailed client front now × IsFaulted turn
-  pub means : TurnMeans appends shard client now turn
+  pub means : TurnMeans role shard client now turn
 
 -- R holds after a turn in which the worker goes on
 abbrev pub ReadyAgain : Type 0 → WorkerTurn → Type 0

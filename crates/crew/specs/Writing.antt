@@ -12,6 +12,7 @@ use Rattle.machine_core.specs.Polling.{FollowsWhere}
 use Rattle.write_client.specs.Machining.{machine}
 use Rattle.write_client.specs.Writing as writers
 use Rattle.appends_core.specs.Feeds.{end_of_feed}
+use Rattle.crew_core.specs.Working.{as_writer}
 use Rattle.crew.specs.declared.ends.WorkerTurn.{WorkerTurn}
 use Rattle.crew.specs.declared.ends.WorkerTurn.TheVariants as turns
 use Rattle.crew.specs.declared.writing.WriterWorker.{WriterWorker}
@@ -50,7 +51,7 @@ pub record IsReady (client : ℕ) (front : Option History) (w : WriterWorker) : 
 -- after a turn it is ready, or its end says what it says
 abbrev pub Comes : ℕ → Option History → WriterWorker → WorkerTurn → Type 0
 Comes client front w turns.Again = IsReady client front w
-Comes client front w (turns.End end) = EndMeans w.appends.now w.shard client front end
+Comes client front w (turns.End end) = EndMeans (as_writer w.appends.now) w.shard client front end
 
 -- the open command goes on, one that a worker may ask
 pub record IsGoing (w : WriterWorker) (front : Option History) : Type 0 where

@@ -8,12 +8,14 @@ ghost use Rattle.shared_store.specs.Fronts.{front_of};
 ghost use Rattle.shared_store.specs.Owners.{IsPassOfStore};
 ghost use Rattle.appends_core.specs.Feeds.{IsFeed};
 ghost use Rattle.crew.specs.Crews.{CrewRanOn};
+ghost use Rattle.crew.specs.Plans.{workers_of};
 ghost use Rattle.crew.specs.Seats.{EndsOn, PlacedFrom};
 
 use crate::end_lists::EndList;
 use crate::ends::WorkerEnd;
 use crate::gates::Gate;
 use crate::plans::Plan;
+use crate::progress::Progress;
 use crate::seats::{Seat, deal, gather, sit_all};
 use read_client::Reader;
 use shared_store::{CountedStore, SharedStore};
@@ -46,6 +48,7 @@ fn work_together<S: Store + Send, G: Gate + Sync, R: Threads + Wait + Sync>(
     mut pass: Pass<CountedStore<S>>,
     gate: &G,
     plan: &Plan,
+    moment: u64,
     seats: &mut [Seat<S>],
     ends: &mut [WorkerEnd],
 ) -> S
@@ -54,13 +57,14 @@ fn work_together<S: Store + Send, G: Gate + Sync, R: Threads + Wait + Sync>(
     requires feed { IsFeed plan.now.appends }
     requires few { length seats.old ≤ 64 }
     requires room { length ends.old ≡ length seats.old }
-    requires places { PlacedFrom plan.now.stops 0 seats.old }
-    ensures ran { CrewRanOn plan.now.appends plan.now.shard (front_of S.history (view pass)) (S.history result) }
+    requires places { PlacedFrom plan.now 0 seats.old }
+    ensures ran { CrewRanOn plan.now (front_of S.history (view pass)) (S.history result) }
     ensures others { GrowsByOthers 0 (front_of S.history (view pass)) (S.history result) }
-    ensures ends { EndsOn plan.now.appends plan.now.shard plan.now.stops (front_of S.history (view pass)) (S.history result) ends.new }
+    ensures ends { EndsOn plan.now (front_of S.history (view pass)) (S.history result) ends.new }
     ensures length { length ends.new ≡ length seats.old }
 {
     let appends = plan.appends.as_slice();
+    let progress = Progress::new(plan.writers);
     deal(&shared.turnstile, &mut pass, seats);
     sit_all(
         rt,
@@ -69,28 +73,25 @@ fn work_together<S: Store + Send, G: Gate + Sync, R: Threads + Wait + Sync>(
         gate,
         plan.shard,
         appends,
+        moment,
+        &progress,
         seats,
     );
-    gather(
-        &shared.turnstile,
-        &mut pass,
-        plan.shard,
-        appends,
-        seats,
-        ends,
-    );
+    gather(&shared.turnstile, &mut pass, plan, seats, ends);
     shared.close(pass)
 }
 
 // A seat with no pass yet for each worker, by number.
 fn make_seats<S: Store>(alloc: Global, plan: &Plan) -> Result<Vec<Seat<S>>, AllocError>
-    ensures count { IfOk result (λ seats. vec_len seats ≡ plan.now.writers) }
-    ensures places { IfOk result (λ seats. PlacedFrom plan.now.stops 0 seats.items) }
+    requires few { workers_of plan.now ≤ 64 }
+    ensures count { IfOk result (λ seats. vec_len seats ≡ workers_of plan.now) }
+    ensures places { IfOk result (λ seats. PlacedFrom plan.now 0 seats.items) }
 {
     let mut seats = Vec::new(alloc);
-    for worker in 0..plan.writers {
+    for worker in 0..plan.workers() {
         seats.push(Seat {
             worker,
+            job: plan.job_of(worker),
             stop: plan.stops.stop_of(worker),
             pass: None,
             end: WorkerEnd::Finished,
@@ -101,17 +102,19 @@ fn make_seats<S: Store>(alloc: Global, plan: &Plan) -> Result<Vec<Seat<S>>, Allo
 
 // A place for the end of each worker.
 fn make_ends(alloc: Global, plan: &Plan) -> Result<Vec<WorkerEnd>, AllocError>
-    ensures { IfOk result (λ ends. vec_len ends ≡ plan.now.writers) }
+    requires few { workers_of plan.now ≤ 64 }
+    ensures { IfOk result (λ ends. vec_len ends ≡ workers_of plan.now) }
 {
     let mut ends = Vec::new(alloc);
-    for _ in 0..plan.writers {
+    for _ in 0..plan.workers() {
         ends.push(WorkerEnd::Finished)?;
     }
     Ok(ends)
 }
 
-/// Workers try the plan's appends at the store, each in a thread of its own, until all have ended. Client 0, as which the pin reads,
-/// makes no call meanwhile, and the pin follows also afterwards. The store and the pin come back as they were handed in where memory
+/// Workers try the plan's appends at the store and merge what is due, each in a thread of its own, until all have ended. The moment is the
+/// one at which the leases of compactors begin. Client 0, as which the pin reads, makes no call meanwhile, and the pin follows also
+/// afterwards. The store and the pin come back as they were handed in where memory
 /// was refused before any worker started. This waits for the workers. (docs/DEFINITIONS.md, "Crews that run".)
 pub fn run_crew<S: Store + Send, G: Gate + Sync, R: Threads + Wait + Sync>(
     rt: &R,
@@ -119,13 +122,14 @@ pub fn run_crew<S: Store + Send, G: Gate + Sync, R: Threads + Wait + Sync>(
     store: S,
     plan: &Plan,
     pin: Reader,
+    moment: u64,
     gate: &G,
 ) -> Result<CrewEnd<S>, CrewBack<S>>
     requires feed { IsFeed plan.now.appends }
-    requires few { plan.now.writers ≤ 64 }
-    ensures ran { IfOk result (λ end. CrewRanOn plan.now.appends plan.now.shard (S.history store) (S.history end.store)) }
-    ensures workers { IfOk result (λ end. length end.ends ≡ plan.now.writers) }
-    ensures ends { IfOk result (λ end. EndsOn plan.now.appends plan.now.shard plan.now.stops (S.history store) (S.history end.store)
+    requires few { workers_of plan.now ≤ 64 }
+    ensures ran { IfOk result (λ end. CrewRanOn plan.now (S.history store) (S.history end.store)) }
+    ensures workers { IfOk result (λ end. length end.ends ≡ workers_of plan.now) }
+    ensures ends { IfOk result (λ end. EndsOn plan.now (S.history store) (S.history end.store)
         end.ends) }
     ensures others { IfOk result (λ end. GrowsByOthers 0 (S.history store) (S.history end.store)) }
     ensures pin { IfOk result (λ end. end.pin ≡ pin) }
@@ -149,6 +153,7 @@ pub fn run_crew<S: Store + Send, G: Gate + Sync, R: Threads + Wait + Sync>(
         pass,
         gate,
         plan,
+        moment,
         seats.as_mut_slice(),
         ends.as_mut_slice(),
     );

@@ -5,7 +5,9 @@ mod crews;
 mod end_lists;
 mod ends;
 mod gates;
+mod merging;
 mod plans;
+mod progress;
 mod seats;
 mod stops;
 mod worker_ports;
@@ -13,6 +15,7 @@ mod workers;
 mod working;
 mod writing;
 
+pub use crew_core::Job;
 pub use crews::{CrewBack, CrewEnd, run_crew};
 pub use end_lists::EndList;
 pub use ends::{WorkerEnd, WorkerTurn};

@@ -1,18 +1,22 @@
 // Seats of a crew.
-ghost use Rattle.std.specs.Prelude.{◌≡◌, ◌+◌, ◌*◌, ◌^◌, ◌≤◌, ◌<◌, ℕ, [], List, length, slice_index_or};
+ghost use Rattle.std.specs.Prelude.{◌≡◌, ◌+◌, ◌*◌, ◌^◌, ◌≤◌, ◌<◌, ℕ, [], length, slice_index_or};
 ghost use Rattle.std.specs.List.{AllByRecursion};
 ghost use mathlib.Core.List.{IsPrefix};
 ghost use Rattle.turnstile.specs.Passes.{IsPassOf, view};
 ghost use Rattle.shared_store.specs.Passes.{told_of};
 ghost use Rattle.shared_store.specs.Trails.{entry_client};
 ghost use Rattle.appends_core.specs.Feeds.{IsFeed};
-ghost use Rattle.crew.specs.declared.stops.Stop.{Stop};
+ghost use Rattle.crew.specs.declared.plans.Plan.{Plan};
+ghost use Rattle.crew.specs.Plans.{role_in};
 ghost use Rattle.crew.specs.Seats.{HasNumber, HasWorked, IsPrefixOf, IsSeated, KinKeeps, NumberedFrom, PlacedFrom, SeenSame};
-ghost use Rattle.crew.specs.Seats.{Shows, ShowsSeat, Works, ends_of, share_in, shares_of};
+ghost use Rattle.crew.specs.Seats.{Shows, ShowsSeat, Suits, Works, ends_of, share_in, shares_of};
 
 use crate::ends::WorkerEnd;
 use crate::gates::Gate;
+use crate::plans::Plan;
+use crate::progress::Progress;
 use crate::working::{Task, work_alone};
+use crew_core::Job;
 use shared_store::CountedStore;
 use std::alloc::Global;
 use std::sync::Wait;
@@ -22,10 +26,11 @@ use store_core::{ShardId, Store};
 use turnstile::{Pass, Turnstile};
 use update_core::FeedAppend;
 
-/// A worker's place in a crew: its number, its stop number if it has one, its pass, and its end.
+/// A worker's place in a crew: its number, what it is for, its stop number if it has one, its pass, and its end.
 #[derive(Drop)]
 pub struct Seat<S: Store> {
     pub(crate) worker: u32,
+    pub(crate) job: Job,
     pub(crate) stop: Option<u64>,
     pub(crate) pass: Option<Pass<CountedStore<S>>>,
     pub(crate) end: WorkerEnd,
@@ -39,6 +44,8 @@ fn sit<S: Store, G: Gate, R: Wait>(
     gate: &G,
     shard: ShardId,
     appends: &[FeedAppend],
+    moment: u64,
+    progress: &Progress,
     seat: &mut Seat<S>,
 )
     requires seated { IsSeated turnstile.now seat.old }
@@ -50,9 +57,12 @@ fn sit<S: Store, G: Gate, R: Wait>(
     };
     let task = Task {
         worker: seat.worker,
+        job: seat.job,
         stop: seat.stop,
         shard,
         appends,
+        moment,
+        progress,
     };
     let (pass, end) = work_alone(rt, alloc, turnstile, pass, gate, task);
     seat.pass = Some(pass);
@@ -67,6 +77,8 @@ pub(crate) fn sit_all<S: Store + Send, G: Gate + Sync, R: Threads + Wait + Sync>
     gate: &G,
     shard: ShardId,
     appends: &[FeedAppend],
+    moment: u64,
+    progress: &Progress,
     seats: &mut [Seat<S>],
 )
     requires seated { AllByRecursion (IsSeated turnstile.now) seats.old }
@@ -86,7 +98,11 @@ pub(crate) fn sit_all<S: Store + Send, G: Gate + Sync, R: Threads + Wait + Sync>
         &|_: usize, seat: &mut Seat<S>|
             requires { IsSeated turnstile.now seat.now × IsFeed appends.now }
             ensures { Works appends.entry.now shard turnstile.entry.now seat.entry.now seat.exit.now }
-        { sit(rt, alloc, turnstile, gate, shard, appends, seat) },
+        {
+            sit(
+                rt, alloc, turnstile, gate, shard, appends, moment, progress, seat,
+            )
+        },
     );
 }
 
@@ -108,6 +124,7 @@ fn deal_one<S: Store>(
     ensures low { (view pass.new).low ≡ (view pass.old).low + 1 }
     ensures worker { seat.new.worker ≡ seat.old.worker }
     ensures stop { seat.new.stop ≡ seat.old.stop }
+    ensures job { seat.new.job ≡ seat.old.job }
 {
     let Ok(other) = turnstile.split(pass) else {
         unreachable!()
@@ -130,7 +147,7 @@ pub(crate) fn deal<S: Store>(
     ensures shares { (view pass.new).share + shares_of seats.new ≡ (view pass.old).share }
     ensures numbers { NumberedFrom (view pass.old).low seats.new }
     ensures length { length seats.new ≡ length seats.old }
-    ensures places { (stops : List Stop) (worker : ℕ) → PlacedFrom stops worker seats.old → PlacedFrom stops worker seats.new }
+    ensures places { (plan : Plan) (worker : ℕ) → PlacedFrom plan worker seats.old → PlacedFrom plan worker seats.new }
 {
     let Some((first, rest)) = seats.split_first_mut() else {
         return;
@@ -143,16 +160,16 @@ pub(crate) fn deal<S: Store>(
 fn take_in<S: Store>(
     turnstile: &Turnstile<CountedStore<S>>,
     pass: &mut Pass<CountedStore<S>>,
-    shard: ShardId,
-    appends: &[FeedAppend],
+    plan: &Plan,
     seat: &mut Seat<S>,
     end: &mut WorkerEnd,
 )
     requires pass { IsPassOf told_of entry_client turnstile.now pass.old }
-    requires keeps { KinKeeps appends.now shard S.history (view pass.old) }
-    requires worked { HasWorked appends.now shard turnstile.now seat.old }
+    requires keeps { KinKeeps (role_in plan.now) plan.now.shard S.history (view pass.old) }
+    requires worked { HasWorked plan.now.appends plan.now.shard turnstile.now seat.old }
+    requires suits { Suits plan.now seat.old }
     ensures pass { IsPassOf told_of entry_client turnstile.now pass.new }
-    ensures keeps { KinKeeps appends.now shard S.history (view pass.new) }
+    ensures keeps { KinKeeps (role_in plan.now) plan.now.shard S.history (view pass.new) }
     ensures start { (view pass.new).start ≡ (view pass.old).start }
     ensures share { (view pass.new).share ≡ (view pass.old).share + share_in seat.old.pass }
     ensures own { Shows (view pass.old) (view pass.new) }
@@ -172,17 +189,17 @@ fn take_in<S: Store>(
 pub(crate) fn gather<S: Store>(
     turnstile: &Turnstile<CountedStore<S>>,
     pass: &mut Pass<CountedStore<S>>,
-    shard: ShardId,
-    appends: &[FeedAppend],
+    plan: &Plan,
     seats: &mut [Seat<S>],
     ends: &mut [WorkerEnd],
 )
     requires pass { IsPassOf told_of entry_client turnstile.now pass.old }
-    requires keeps { KinKeeps appends.now shard S.history (view pass.old) }
-    requires worked { AllByRecursion (HasWorked appends.now shard turnstile.now) seats.old }
+    requires keeps { KinKeeps (role_in plan.now) plan.now.shard S.history (view pass.old) }
+    requires worked { AllByRecursion (HasWorked plan.now.appends plan.now.shard turnstile.now) seats.old }
+    requires suits { AllByRecursion (Suits plan.now) seats.old }
     requires room { length ends.old ≡ length seats.old }
     ensures pass { IsPassOf told_of entry_client turnstile.now pass.new }
-    ensures keeps { KinKeeps appends.now shard S.history (view pass.new) }
+    ensures keeps { KinKeeps (role_in plan.now) plan.now.shard S.history (view pass.new) }
     ensures start { (view pass.new).start ≡ (view pass.old).start }
     ensures shares { (view pass.new).share ≡ (view pass.old).share + shares_of seats.old }
     ensures own { Shows (view pass.old) (view pass.new) }
@@ -197,6 +214,6 @@ pub(crate) fn gather<S: Store>(
     let Some((end, more)) = ends.split_first_mut() else {
         unreachable!()
     };
-    take_in(turnstile, pass, shard, appends, first, end);
-    gather(turnstile, pass, shard, appends, rest, more);
+    take_in(turnstile, pass, plan, first, end);
+    gather(turnstile, pass, plan, rest, more);
 }

@@ -1,21 +1,23 @@
 // The trait of a worker.
-ghost use Rattle.std.specs.Prelude.{◌≡◌, ℕ, Option, List};
-ghost use Rattle.update_core.specs.declared.appends.FeedAppend.{FeedAppend};
+ghost use Rattle.std.specs.Prelude.{◌≡◌, ℕ, Option};
 ghost use Rattle.store_core.specs.declared.shards.ShardId.{ShardId};
 ghost use Rattle.store_core.specs.Histories.{History};
 ghost use Rattle.appends_core.specs.Feeds.{IsFeed};
+ghost use Rattle.crew_core.specs.Working.{Role, as_compactor, as_writer};
 ghost use Rattle.crew.specs.Turns.{ReadyAgain, Turned};
+ghost use Rattle.crew.specs.Merging as merging;
 ghost use Rattle.crew.specs.Writing.{IsReady};
 
 use crate::ends::WorkerTurn;
+use crate::merging::CompactorWorker;
 use crate::writing::WriterWorker;
 use std::alloc::Global;
 use store_core::Port;
 
 /// A worker of a crew, which takes turns at a port until it ends.
 pub trait Worker {
-    /// The appends of its plan.
-    ghost appends: { Self → List FeedAppend };
+    /// What it is for.
+    ghost role: { Self → Role };
 
     /// The shard that it works on.
     ghost shard: { Self → ShardId };
@@ -26,21 +28,33 @@ pub trait Worker {
     /// One turn, with at most one call of the store. It waits for nobody.
     fn turn<P: Port>(&mut self, alloc: Global, port: &mut P) -> WorkerTurn
         requires { ready self.old (P.client port.old) (P.front port.old) }
-        ensures turned { Turned (appends self.old) (shard self.old) (P.client port.old) (P.front port.old) (P.front port.new)
+        ensures turned { Turned (role self.old) (shard self.old) (P.client port.old) (P.front port.old) (P.front port.new)
             (P.misses port.old) (P.misses port.new) result }
         ensures ready { ReadyAgain (ready self.new (P.client port.old) (P.front port.new)) result }
-        ensures appends { appends self.new ≡ appends self.old }
+        ensures role { role self.new ≡ role self.old }
         ensures shard { shard self.new ≡ shard self.old }
         ensures client { P.client port.new ≡ P.client port.old }
         ensures kept { P.kept port.new ≡ P.kept port.old };
 }
 
 impl<'a> Worker for WriterWorker<'a> {
-    ghost appends = { λ w. w.appends.now };
+    ghost role = { λ w. as_writer w.appends.now };
 
     ghost shard = { λ w. w.shard };
 
     ghost ready = { λ w client front. IsFeed w.appends.now × IsReady client front w };
+
+    fn turn<P: Port>(&mut self, alloc: Global, port: &mut P) -> WorkerTurn {
+        self.poll_once(alloc, port)
+    }
+}
+
+impl<'a> Worker for CompactorWorker<'a> {
+    ghost role = { λ w. as_compactor };
+
+    ghost shard = { λ w. w.shard };
+
+    ghost ready = { λ w client front. merging.IsReady client front w };
 
     fn turn<P: Port>(&mut self, alloc: Global, port: &mut P) -> WorkerTurn {
         self.poll_once(alloc, port)

@@ -6,15 +6,18 @@ ghost use Rattle.shared_store.specs.Passes.{kept_of, told_of};
 ghost use Rattle.shared_store.specs.Trails.{entry_client};
 ghost use Rattle.appends_core.specs.Feeds.{IsFeed};
 ghost use Rattle.crew_core.specs.KeepingOn.{KeepsOn};
-ghost use Rattle.crew_core.specs.Working.{IsWorkersEntry};
+ghost use Rattle.crew_core.specs.Working.{IsWorkersEntry, as_compactor, as_writer, role_of};
 ghost use Rattle.crew.specs.Looping.{EndShown};
 ghost use Rattle.crew.specs.Posts.{SamePass, own_calls};
 
 use crate::ends::{WorkerEnd, WorkerTurn};
 use crate::gates::Gate;
+use crate::merging::CompactorWorker;
+use crate::progress::Progress;
 use crate::worker_ports::WorkerPort;
 use crate::workers::Worker;
 use crate::writing::WriterWorker;
+use crew_core::Job;
 use shared_store::{CountedStore, SharedPort};
 use std::alloc::Global;
 use std::sync::Wait;
@@ -32,9 +35,9 @@ fn work<S: Store, G: Gate, W: Worker, R: Wait>(
 ) -> WorkerEnd
     requires ready { W.ready worker.old port.old.port.known.number (front_of S.history port.old.port.known) }
     requires fresh { own_calls port.old.port.known ≡ 0 }
-    ensures keeps { KeepsOn (IsWorkersEntry (W.appends worker.old) (W.shard worker.old)) (W.shard worker.old) port.old.port.known.number
+    ensures keeps { KeepsOn (IsWorkersEntry (W.role worker.old) (W.shard worker.old)) (W.shard worker.old) port.old.port.known.number
         (front_of S.history port.old.port.known) (front_of S.history port.new.port.known) }
-    ensures end { EndShown S.history (W.appends worker.old) (W.shard worker.old) stop port.new.port.known result }
+    ensures end { EndShown S.history (W.role worker.old) (W.shard worker.old) stop port.new.port.known result }
     ensures kept { kept_of port.new.port ≡ kept_of port.old.port }
 {
     for _ in rt.forever() {
@@ -50,16 +53,19 @@ fn work<S: Store, G: Gate, W: Worker, R: Wait>(
     unreachable!()
 }
 
-/// What a worker is to do: its number, its stop number if it has one, and the appends that it tries on the shard.
+/// What a worker is to do: its number, what it is for, its stop number if it has one, and what it works on.
 #[derive(Clone, Copy)]
 pub(crate) struct Task<'a> {
     pub(crate) worker: u32,
+    pub(crate) job: Job,
     pub(crate) stop: Option<u64>,
     pub(crate) shard: ShardId,
     pub(crate) appends: &'a [FeedAppend],
+    pub(crate) moment: u64,
+    pub(crate) progress: &'a Progress,
 }
 
-/// A writer of the task works to its end through a port of its own.
+/// A worker of the task works to its end through a port of its own.
 pub(crate) fn work_alone<S: Store, G: Gate, R: Wait>(
     rt: &R,
     alloc: Global,
@@ -73,12 +79,61 @@ pub(crate) fn work_alone<S: Store, G: Gate, R: Wait>(
     requires feed { IsFeed task.appends.now }
     ensures pass { IsPassOf told_of entry_client turnstile.now result.0 }
     ensures same { SamePass (view pass) (view result.0) }
-    ensures keeps { KeepsOn (IsWorkersEntry task.entry.appends.now task.entry.shard) task.entry.shard (view pass).number
-        (front_of S.history (view pass)) (front_of S.history (view result.0)) }
-    ensures end { EndShown S.history task.entry.appends.now task.entry.shard task.entry.stop (view result.0) result.1 }
+    ensures keeps { KeepsOn (IsWorkersEntry (role_of task.entry.job task.entry.appends.now) task.entry.shard) task.entry.shard
+        (view pass).number (front_of S.history (view pass)) (front_of S.history (view result.0)) }
+    ensures end { EndShown S.history (role_of task.entry.job task.entry.appends.now) task.entry.shard task.entry.stop
+        (view result.0) result.1 }
+{
+    match task.job {
+        Job::Write => write_alone(rt, alloc, turnstile, pass, gate, task),
+        Job::Merge => merge_alone(rt, alloc, turnstile, pass, gate, task),
+    }
+}
+
+// A writer of the task works to its end; the others learn that it has ended.
+fn write_alone<S: Store, G: Gate, R: Wait>(
+    rt: &R,
+    alloc: Global,
+    turnstile: &Turnstile<CountedStore<S>>,
+    pass: Pass<CountedStore<S>>,
+    gate: &G,
+    task: Task<'_>,
+) -> (Pass<CountedStore<S>>, WorkerEnd)
+    requires pass { IsPassOf told_of entry_client turnstile.now pass }
+    requires fresh { own_calls (view pass) ≡ 0 }
+    requires feed { IsFeed task.appends.now }
+    ensures pass { IsPassOf told_of entry_client turnstile.now result.0 }
+    ensures same { SamePass (view pass) (view result.0) }
+    ensures keeps { KeepsOn (IsWorkersEntry (as_writer task.entry.appends.now) task.entry.shard) task.entry.shard
+        (view pass).number (front_of S.history (view pass)) (front_of S.history (view result.0)) }
+    ensures end { EndShown S.history (as_writer task.entry.appends.now) task.entry.shard task.entry.stop (view result.0) result.1 }
 {
     let mut port = WorkerPort::new(SharedPort::at(turnstile, pass), gate, task.worker);
     let mut worker = WriterWorker::new(alloc, task.shard, task.appends);
+    let end = work(rt, alloc, &mut worker, &mut port, task.stop);
+    task.progress.end_one();
+    (port.back(), end)
+}
+
+// A compactor of the task works to its end.
+fn merge_alone<S: Store, G: Gate, R: Wait>(
+    rt: &R,
+    alloc: Global,
+    turnstile: &Turnstile<CountedStore<S>>,
+    pass: Pass<CountedStore<S>>,
+    gate: &G,
+    task: Task<'_>,
+) -> (Pass<CountedStore<S>>, WorkerEnd)
+    requires pass { IsPassOf told_of entry_client turnstile.now pass }
+    requires fresh { own_calls (view pass) ≡ 0 }
+    ensures pass { IsPassOf told_of entry_client turnstile.now result.0 }
+    ensures same { SamePass (view pass) (view result.0) }
+    ensures keeps { KeepsOn (IsWorkersEntry as_compactor task.entry.shard) task.entry.shard
+        (view pass).number (front_of S.history (view pass)) (front_of S.history (view result.0)) }
+    ensures end { EndShown S.history as_compactor task.entry.shard task.entry.stop (view result.0) result.1 }
+{
+    let mut port = WorkerPort::new(SharedPort::at(turnstile, pass), gate, task.worker);
+    let mut worker = CompactorWorker::new(alloc, task.shard, task.moment, task.progress);
     let end = work(rt, alloc, &mut worker, &mut port, task.stop);
     (port.back(), end)
 }

@@ -8,6 +8,7 @@ ghost use Rattle.write_client.specs.Machining.{machine};
 ghost use Rattle.write_client.specs.Writing.{IsSound, shard_of};
 ghost use Rattle.appends_core.specs.Feeds.{IsFeed, end_of_feed};
 ghost use Rattle.crew_core.specs.Completing.{IsBound};
+ghost use Rattle.crew_core.specs.Working.{as_writer};
 ghost use Rattle.crew.specs.Ends.{Reached};
 ghost use Rattle.crew.specs.Turns.{IsFaulted, IsMarked, ReadyAgain, Turned};
 ghost use Rattle.crew.specs.Writing.{Comes, GoesOnTo, IsPlaceOf, IsReady, IsTold, IsToldAt, PlaceMeans};
@@ -48,7 +49,7 @@ impl<'a> WriterWorker<'a> {
     pub(crate) fn poll_once<P: Port>(&mut self, alloc: Global, port: &mut P) -> WorkerTurn
         requires feed { IsFeed self.old.appends.now }
         requires ready { IsReady (P.client port.old) (P.front port.old) self.old }
-        ensures turned { Turned self.old.appends.now self.old.shard (P.client port.old) (P.front port.old) (P.front port.new)
+        ensures turned { Turned (as_writer self.old.appends.now) self.old.shard (P.client port.old) (P.front port.old) (P.front port.new)
             (P.misses port.old) (P.misses port.new) result }
         ensures ready { ReadyAgain (IsReady (P.client port.old) (P.front port.new) self.new) result }
         ensures appends { self.new.appends.now ≡ self.old.appends.now }

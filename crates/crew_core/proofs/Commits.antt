@@ -1,5 +1,5 @@
 -- A version that an entry of a lawful history commits, however it was answered. Entries go newest first.
-use Rattle.std.proofs.Common.{◌&&◌, ◌≡◌, ℕ, ◌+◌, Bool, true, false, Some, List, ◌∷◌, ◌++◌, ◌⊎◌, inl, inr, refl, subst, sym, ap, ◌∙◌}
+use Rattle.std.proofs.Common.{◌&&◌, ◌≡◌, ℕ, ◌+◌, Bool, true, false, Option, Some, None, List, ◌∷◌, ◌++◌, ◌⊎◌, inl, inr, refl, subst, sym, ap, ◌∙◌}
 use Rattle.std.proofs.Common.{append-nil}
 use Rattle.update_core.specs.declared.updates.Update.{Update}
 use Rattle.store_core.specs.declared.shards.ShardId.{ShardId}
@@ -46,6 +46,7 @@ pub record Stepped (shard : ShardId) (list : List Update) (start : Stored) (e : 
 -- what an entry that commits the first version does
 pub record Begun (shard : ShardId) (list : List Update) (start : Stored) (e : Entry) (es : List Entry) : Type 0 where
   pub none : (n : ℕ) (s : ShardState) → LastIs (replay_back start es) shard n s → ⊥
+  pub after : (k : Commits start shard (placed e es)) (n : ℕ) → k.expected ≡ Some n → ⊥
   pub now : LastIs (replay_back start (e ∷ es)) shard 0 (init shard)
   pub same : accepted shard list start (e ∷ es) ≡ accepted shard list start es
 
@@ -83,6 +84,12 @@ module _ (shard : ShardId) (list : List Update) (start : Stored) (st : StandsFor
   what_commits k = go (commit_of start shard (base_of start shard list st).begin.first es e.client k.expected k.bytes k.commit
       (subst (λ (q : Call). Allows (mine_back start es e.client) q) k.call_is (lawful_newest start e es l)))
     where
+      not_both : (a b : Option ℕ) (x y : List ℕ) (n : ℕ) → calls.Cas shard a x ≡ calls.Cas shard b y → a ≡ None → b ≡ Some n → ⊥
+      not_both a b x y n h none some = let same : a ≡ b = cc in let bad : None ≡ Some n = sym none ∙ same ∙ some in cc
+
+      other : (q : Commits start shard (placed e es)) (n : ℕ) → q.expected ≡ Some n → k.expected ≡ None → ⊥
+      other q n some none = not_both k.expected q.expected k.bytes q.bytes n (sym k.call_is ∙ q.call_is) none some
+
       grown : ever start shard (e ∷ es) ≡ committed (ever start shard es) k.bytes
       grown = ever_commits start shard e es k
 
@@ -95,6 +102,7 @@ module _ (shard : ShardId) (list : List Update) (start : Stored) (st : StandsFor
           inl (record {
             none = λ n s last. none_there shard (ever start shard es) n s f.empty
                 (last_ever start shard list st es (lawful_older start e es l) n s last).1;
+            after = λ q n e. other q n e f.none;
             now = last_live start shard list st (e ∷ es) l 0 (init shard) (subst (λ (g : Log). IsLast g 0) (sym first) refl)
                 (subst (λ (g : Log). StateIn shard g 0 (init shard)) (sym first) there);
             same = ap (λ (us : List Update). accepted shard list start es ++ us)

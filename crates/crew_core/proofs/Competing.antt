@@ -17,10 +17,12 @@ use Rattle.store_core.specs.Histories.{History}
 use Rattle.store_core.specs.Ports.{Answered}
 use Rattle.store_core.specs.Newest.{replay_back, mine_back}
 use Rattle.store_core.proofs.NewestLaws.{replay-newest, mine-newest}
-use Rattle.state_core.specs.declared.kinds.Kind.TheVariants.{Writer}
+use Rattle.spine_core.specs.declared.batches.Batch.{Batch}
+use Rattle.state_core.specs.declared.kinds.Kind.{Kind}
+use Rattle.state_core.specs.declared.kinds.Kind.TheVariants.{Writer, Keeper}
 use Rattle.state_core.specs.declared.members.Member.{Member}
 use Rattle.state_core.specs.declared.transitions.Transition.{Transition}
-use Rattle.state_core.specs.declared.transitions.Transition.TheVariants.{Join, Leave}
+use Rattle.state_core.specs.declared.transitions.Transition.TheVariants.{Join, Leave, Merge}
 use Rattle.state_core.specs.States.{ShardState, SinceIs, greater_of, is_reader, least_since, or_least}
 use Rattle.state_core.specs.Steps.{Applies, init, without}
 use Rattle.state_core.specs.VersionReading.{version_in}
@@ -30,7 +32,7 @@ use Rattle.history_core.specs.Discipline.{LawfulBack}
 use Rattle.history_core.specs.Laws.{LastIs}
 use Rattle.history_core.specs.Legal.{AcceptedAt, collection_in}
 use Rattle.history_core.specs.Members.{JoinedAs}
-use Rattle.history_core.specs.Placing.{placed}
+use Rattle.history_core.specs.Placing.{Commits, placed}
 use Rattle.history_core.specs.Stands.{StandsFor, accepted, appended_by}
 use Rattle.history_core.proofs.Bases.{none_there}
 use Rattle.history_core.proofs.Endings.{last_law}
@@ -39,25 +41,27 @@ use Rattle.history_core.proofs.OwnMembers.{kind_law}
 use Rattle.history_core.proofs.Quiet.{Quiet, last_stays, quiet_back}
 use Rattle.history_core.proofs.StateFacts.{state_rules}
 use Rattle.load_core.proofs.Gaining.{lawful_forth}
+use Rattle.crew_core.specs.declared.jobs.Job.{Job}
+use Rattle.crew_core.specs.declared.jobs.Job.TheVariants as jobs
 use Rattle.crew_core.specs.Competing.{HasAppended, HasCollection}
 use Rattle.appends_core.specs.Feeds.{FollowOn, from_upper, rows_of, weight_of_all}
-use Rattle.crew_core.specs.Working.{CarriesWorkers, IsOneOf, IsWorkersEntry, IsWorkersStep}
+use Rattle.crew_core.specs.Working.{CarriesWorkers, IsOneOf, IsOwnLeave, IsOwnMerge, IsWorkersEntry, IsWorkersStep, role_of}
 use Rattle.crew_core.proofs.Accepting.{storers_law}
 use Rattle.crew_core.proofs.Commits.{Begun, Stepped, commits_there, what_commits}
 use Rattle.appends_core.proofs.FeedSteps.{end_on, rows_on, weight_on}
 use Rattle.crew_core.proofs.FeedLaws.{found_at, rest_from}
 
--- ---- since stays where a writer leaves
+-- ---- since stays where one leaves that is no reader
 
-least_without : (n : ℕ) (ms : List Member) → AllByRecursion (λ m. m.number ≡ n → m.kind ≡ Writer) ms →
-    least_since (without n ms) ≡ least_since ms
-least_without n [] all = refl
-least_without n (m ∷ ms) all = elim (bool_cases (m.number == n)) [
+least_without : (kind : Kind) → is_reader kind ≡ false → (n : ℕ) (ms : List Member) →
+    AllByRecursion (λ m. m.number ≡ n → m.kind ≡ kind) ms → least_since (without n ms) ≡ least_since ms
+least_without kind reads n [] all = refl
+least_without kind reads n (m ∷ ms) all = elim (bool_cases (m.number == n)) [
   | inl t ↦
-      let kind : m.kind ≡ Writer = all.0 (same m.number n t) in
-      let no : is_reader m.kind ≡ false = ap is_reader kind in
-      rw (t, no) (least_without n ms all.1)
-  | inr t ↦ rw t (ap (λ (o : Option ℕ). cond (is_reader m.kind) (or_least o m.since) o) (least_without n ms all.1))
+      let kind_is : m.kind ≡ kind = all.0 (same m.number n t) in
+      let no : is_reader m.kind ≡ false = ap is_reader kind_is ∙ reads in
+      rw (t, no) (least_without kind reads n ms all.1)
+  | inr t ↦ rw t (ap (λ (o : Option ℕ). cond (is_reader m.kind) (or_least o m.since) o) (least_without kind reads n ms all.1))
 ]
   where
     same : (a b : ℕ) → (a == b) ≡ true → a ≡ b
@@ -93,19 +97,28 @@ record Leaves (s : ShardState) (x : Transition) (t : ShardState) : Type 0 where
   pub upper : t.upper ≡ s.upper
   pub weight : t.weight ≡ s.weight
 
-join_leaves : (s : ShardState) (x : Transition) (t : ShardState) → x ≡ Join Writer 0 0 → Applies s x t → Leaves s x t
-join_leaves s x t is a = let b = subst (λ (y : Transition). Applies s y t) is a in record {
+join_leaves : (s : ShardState) (x : Transition) (t : ShardState) (kind : Kind) (now lease : ℕ) → x ≡ Join kind now lease →
+    Applies s x t → Leaves s x t
+join_leaves s x t kind now lease is a = let b = subst (λ (y : Transition). Applies s y t) is a in record {
   since = ap (λ (u : ShardState). u.since) b.makes.effect;
   upper = ap (λ (u : ShardState). u.upper) b.makes.effect;
   weight = ap (λ (u : ShardState). u.weight) b.makes.effect;
 }
 
-leave_leaves : (s : ShardState) (x : Transition) (t : ShardState) (member : ℕ) → x ≡ Leave member →
-    SinceIs (least_since s.members) s.since →
-    AllByRecursion (λ m. m.number ≡ member → m.kind ≡ Writer) s.members → Applies s x t → Leaves s x t
-leave_leaves s x t member is since kinds a =
+merge_leaves : (s : ShardState) (x : Transition) (t : ShardState) (member token : ℕ) (left right merged : Batch) →
+    x ≡ Merge member token left right merged → Applies s x t → Leaves s x t
+merge_leaves s x t member token left right merged is a = let b = subst (λ (y : Transition). Applies s y t) is a in record {
+  since = ap (λ (u : ShardState). u.since) b.makes.effect;
+  upper = ap (λ (u : ShardState). u.upper) b.makes.effect;
+  weight = ap (λ (u : ShardState). u.weight) b.makes.effect;
+}
+
+leave_leaves : (kind : Kind) → is_reader kind ≡ false → (s : ShardState) (x : Transition) (t : ShardState) (member : ℕ) →
+    x ≡ Leave member → SinceIs (least_since s.members) s.since →
+    AllByRecursion (λ m. m.number ≡ member → m.kind ≡ kind) s.members → Applies s x t → Leaves s x t
+leave_leaves kind reads s x t member is since kinds a =
     let b = subst (λ (y : Transition). Applies s y t) is a in
-    let least = least_without member s.members kinds in
+    let least = least_without kind reads member s.members kinds in
     record {
       since = ap (λ (u : ShardState). u.since) b.makes.effect ∙ ap (greater_of s.since) least
           ∙ since_same (least_since s.members) s.since since;
@@ -117,18 +130,99 @@ leave_leaves s x t member is since kinds a =
 abbrev turned : Stored → List Entry → History
 turned start es = record { start = start; trail = reverse es }
 
--- a member that a client joined as a writer is one where it stands
-writer_kind : (start : Stored) (shard : ShardId) (list : List Update) (es : List Entry) → StandsFor start shard list →
+-- a member that a client joined as a kind is of it where it stands
+own_kind : (kind : Kind) (start : Stored) (shard : ShardId) (list : List Update) (es : List Entry) → StandsFor start shard list →
     LawfulBack start es → (c member : ℕ) →
-    JoinedAs Writer (mine_back start es c) shard member → (n : ℕ) (s : ShardState) → LastIs (replay_back start es) shard n s →
-    AllByRecursion (λ m. m.number ≡ member → m.kind ≡ Writer) s.members
-writer_kind start shard list es st l c member joined n s last =
+    JoinedAs kind (mine_back start es c) shard member → (n : ℕ) (s : ShardState) → LastIs (replay_back start es) shard n s →
+    AllByRecursion (λ m. m.number ≡ member → m.kind ≡ kind) s.members
+own_kind kind start shard list es st l c member joined n s last =
     let h = turned start es in
     let back : reverse h.trail ≡ es = reverse-reverse es in
-    kind_law shard list h st (lawful_forth h (subst (LawfulBack start) (sym back) l)) Writer c member
-    (subst (λ (own : List Answered). JoinedAs Writer own shard member)
+    kind_law shard list h st (lawful_forth h (subst (LawfulBack start) (sym back) l)) kind c member
+    (subst (λ (own : List Answered). JoinedAs kind own shard member)
     (sym (mine-newest h c ∙ ap (λ (fs : List Entry). mine_back start fs c) back)) joined) n s
     (subst (λ (q : Stored). LastIs q shard n s) (sym (replay-newest start h.trail ∙ ap (replay_back start) back)) last)
+
+-- the collection of the entries before a step
+before_step : (shard : ShardId) (list : List Update) (start : Stored) (es : List Entry) (n : ℕ) (s : ShardState) →
+    LastIs (replay_back start es) shard n s → (now : PlainCollection) → HasCollection list start shard es now →
+    now ≡ collection_in (accepted shard list start es) s
+before_step shard list start es n s last now (inl k) = absurd (none_there shard ((replay_back start es).logs shard) n s k.0 last.1)
+before_step shard list start es n s last now (inr (m, t, other, is)) =
+    is ∙ ap (collection_in (accepted shard list start es)) (last_law (replay_back start es) shard m n t s other last).1
+
+-- a step that appends nothing leaves the accepted updates
+same_accepted : (shard : ShardId) (list : List Update) (start : Stored) (e : Entry) (es : List Entry)
+    (s : Stepped shard list start e es) → appended_by (replay_back start es) (Some (s.to, s.step)) ≡ [] →
+    accepted shard list start (e ∷ es) ≡ accepted shard list start es
+same_accepted shard list start e es s none = s.grows ∙ ap (λ (us : List Update). accepted shard list start es ++ us) none
+    ∙ append-nil (accepted shard list start es)
+
+-- and where it leaves since, upper and weight too, the collection
+same_collection : (shard : ShardId) (list : List Update) (start : Stored) (e : Entry) (es : List Entry)
+    (s : Stepped shard list start e es) → Leaves s.from s.step s.to →
+    appended_by (replay_back start es) (Some (s.to, s.step)) ≡ [] → (c : PlainCollection) →
+    HasCollection list start shard es c → HasCollection list start shard (e ∷ es) c
+same_collection shard list start e es s k none c has = inr (
+  s.number + 1,
+  s.to,
+  s.now,
+  before_step shard list start es s.number s.from s.last c has
+      ∙ alike (accepted shard list start es) (accepted shard list start (e ∷ es)) s.from s.to
+      (sym (same_accepted shard list start e es s none)) k.since k.upper k.weight,
+)
+
+-- a merge
+module _ (shard : ShardId) (list : List Update) (start : Stored) (e : Entry) (es : List Entry) (member token : ℕ)
+    (left right merged : Batch) where
+  merge_adds_none : (s : Stepped shard list start e es) → s.step ≡ Merge member token left right merged →
+      appended_by (replay_back start es) (Some (s.to, s.step)) ≡ []
+  merge_adds_none s is = subst (λ (y : Transition). appended_by (replay_back start es) (Some (s.to, y)) ≡ []) (sym is) refl
+
+  merge_stays : (s : Stepped shard list start e es) → s.step ≡ Merge member token left right merged →
+      (accepted shard list start (e ∷ es) ≡ accepted shard list start es) ×
+      ((c : PlainCollection) → HasCollection list start shard es c → HasCollection list start shard (e ∷ es) c)
+  merge_stays s is = (
+    same_accepted shard list start e es s (merge_adds_none s is),
+    same_collection shard list start e es s
+        (merge_leaves s.from s.step s.to member token left right merged is s.applies) (merge_adds_none s is),
+  )
+
+same_number : (a b : Option ℕ) (n m : ℕ) → a ≡ Some n → b ≡ Some m → a ≡ b → n ≡ m
+same_number a b n m p q e = let k : Some n ≡ Some m = cc in cc
+
+pub merges_stay : (shard : ShardId) (list : List Update) (start : Stored) (e : Entry) (es : List Entry) → StandsFor start shard list →
+    LawfulBack start (e ∷ es) → (k : Commits start shard (placed e es)) (n : ℕ) (to : ShardState) (member token : ℕ)
+    (left right merged : Batch) → k.expected ≡ Some n →
+    version_in shard (n + 1) k.bytes ≡ Some (to, Merge member token left right merged) →
+    (accepted shard list start (e ∷ es) ≡ accepted shard list start es) ×
+    ((c : PlainCollection) → HasCollection list start shard es c → HasCollection list start shard (e ∷ es) c)
+merges_stay shard list start e es st l k n to member token left right merged expected written =
+    elim (what_commits shard list start st e es l k) [
+      | inl b ↦ absurd (not_first b)
+      | inr s ↦ merge_stays shard list start e es member token left right merged s (step_is s)
+    ]
+  where
+    cas_of : (s : Stepped shard list start e es) → calls.Cas shard s.commit.expected s.commit.bytes ≡ calls.Cas shard k.expected k.bytes
+    cas_of s = sym s.commit.call_is ∙ k.call_is
+
+    expected_same : (a b : Option ℕ) (x y : List ℕ) → calls.Cas shard a x ≡ calls.Cas shard b y → a ≡ b
+    expected_same a b x y h = cc
+
+    bytes_same : (a b : Option ℕ) (x y : List ℕ) → calls.Cas shard a x ≡ calls.Cas shard b y → x ≡ y
+    bytes_same a b x y h = cc
+
+    step_is : (s : Stepped shard list start e es) → s.step ≡ Merge member token left right merged
+    step_is s =
+        let number : s.number ≡ n = same_number s.commit.expected k.expected s.number n s.expected expected
+        (expected_same s.commit.expected k.expected s.commit.bytes k.bytes (cas_of s)) in
+        let bytes : s.commit.bytes ≡ k.bytes = bytes_same s.commit.expected k.expected s.commit.bytes k.bytes (cas_of s) in
+        (same_version (version_in shard (n + 1) k.bytes) s.to to s.step (Merge member token left right merged)
+        (subst (λ (bs : List ℕ). version_in shard (n + 1) bs ≡ Some (s.to, s.step)) bytes
+        (subst (λ (m : ℕ). version_in shard (m + 1) s.commit.bytes ≡ Some (s.to, s.step)) number s.written)) written).1
+
+    not_first : Begun shard list start e es → ⊥
+    not_first b = b.after k n expected
 
 module _ (appends : List FeedAppend) (follow : FollowOn (Some 0) appends) (shard : ShardId) (list : List Update)
     (first : PlainCollection) where
@@ -183,27 +277,12 @@ module _ (appends : List FeedAppend) (follow : FollowOn (Some 0) appends) (shard
         on (inl k) = inr (0, init shard, b.now, k.2 ∙ ap (λ (us : List Update). collection_in us (init shard)) (sym (b.same ∙ k.1)))
         on (inr (n, s, last, is)) = absurd (b.none n s last)
 
-    -- the collection before a step
-    before_step : (n : ℕ) (s : ShardState) → LastIs (replay_back start es) shard n s → (now : PlainCollection) →
-        HasCollection list start shard es now → now ≡ collection_in (accepted shard list start es) s
-    before_step n s last now (inl k) = absurd (none_there shard ((replay_back start es).logs shard) n s k.0 last.1)
-    before_step n s last now (inr (m, t, other, is)) =
-        is ∙ ap (collection_in (accepted shard list start es)) (last_law (replay_back start es) shard m n t s other last).1
-
     -- it commits a step that leaves the collection
     leaves : (s : Stepped shard list start e es) → Leaves s.from s.step s.to →
         appended_by (replay_back start es) (Some (s.to, s.step)) ≡ [] → Come start es → Come start (e ∷ es)
     leaves s k none c = record {
       now = c.now;
-      has = inr (
-        s.number + 1,
-        s.to,
-        s.now,
-        before_step s.number s.from s.last c.now c.has
-            ∙ alike (accepted shard list start es) (accepted shard list start (e ∷ es)) s.from s.to
-            (sym (s.grows ∙ ap (λ (us : List Update). accepted shard list start es ++ us) none
-            ∙ append-nil (accepted shard list start es))) k.since k.upper k.weight,
-      );
+      has = same_collection shard list start e es s k none c.now c.has;
       appended = c.appended;
     }
 
@@ -218,10 +297,10 @@ module _ (appends : List FeedAppend) (follow : FollowOn (Some 0) appends) (shard
         at = (subst (λ (y : Transition). Applies s.from y s.to) o.step_is s.applies).makes.fits
 
         now_is : c.now ≡ collection_in (accepted shard list start es) s.from
-        now_is = before_step s.number s.from s.last c.now c.has
+        now_is = before_step shard list start es s.number s.from s.last c.now c.has
 
         same : a.before ≡ c.now
-        same = before_step s.number s.from s.last a.before (inr a.before_is) ∙ sym now_is
+        same = before_step shard list start es s.number s.from s.last a.before (inr a.before_is) ∙ sym now_is
 
         upper_at : c.now.upper ≡ Some o.append.lower
         upper_at = ap (λ (d : PlainCollection). d.upper) now_is ∙ at
@@ -251,28 +330,49 @@ module _ (appends : List FeedAppend) (follow : FollowOn (Some 0) appends) (shard
               since = ap (λ (d : PlainCollection). d.since) effect ∙ h.since;
             }
 
-    -- by what a worker's step is
-    steps : (s : Stepped shard list start e es) → IsWorkersStep appends shard own s.step → Come start es → Come start (e ∷ es)
-    steps s (inl j) c = leaves s (join_leaves s.from s.step s.to j s.applies)
-        (subst (λ (y : Transition). appended_by (replay_back start es) (Some (s.to, y)) ≡ []) (sym j) refl) c
-    steps s (inr (inl (member, is, joined))) c = leaves s
-        (leave_leaves s.from s.step s.to member is (state_rules shard ((replay_back start es).logs shard) s.number s.from s.last.1).since
-        (writer_kind start shard list es st (lawful_older start e es l) e.client member joined s.number s.from s.last) s.applies)
+    -- it commits the leave of a member that is no reader
+    leaves_one : (kind : Kind) → is_reader kind ≡ false → (s : Stepped shard list start e es) → IsOwnLeave kind shard own s.step →
+        Come start es → Come start (e ∷ es)
+    leaves_one kind reads s (member, is, joined) c = leaves s
+        (leave_leaves kind reads s.from s.step s.to member is
+        (state_rules shard ((replay_back start es).logs shard) s.number s.from s.last.1).since
+        (own_kind kind start shard list es st (lawful_older start e es l) e.client member joined s.number s.from s.last) s.applies)
         (subst (λ (y : Transition). appended_by (replay_back start es) (Some (s.to, y)) ≡ []) (sym is) refl) c
-    steps s (inr (inr o)) c = appends_one s o c
 
-    pub come_on : IsWorkersEntry appends shard start es e → Come start es → Come start (e ∷ es)
-    come_on p c = elim (bool_cases (commits_on shard (replay_back start es) e.call e.outcome)) [
+    joins_one : (kind : Kind) (now lease : ℕ) (s : Stepped shard list start e es) → s.step ≡ Join kind now lease → Come start es →
+        Come start (e ∷ es)
+    joins_one kind now lease s j c = leaves s (join_leaves s.from s.step s.to kind now lease j s.applies)
+        (subst (λ (y : Transition). appended_by (replay_back start es) (Some (s.to, y)) ≡ []) (sym j) refl) c
+
+    merges_one : (s : Stepped shard list start e es) → IsOwnMerge shard own s.step → Come start es → Come start (e ∷ es)
+    merges_one s m c = leaves s
+        (merge_leaves s.from s.step s.to m.member m.token m.left m.right m.merged m.step_is s.applies)
+        (merge_adds_none shard list start e es m.member m.token m.left m.right m.merged s m.step_is) c
+
+    -- by what a worker's step is
+    steps : (s : Stepped shard list start e es) (job : Job) → IsWorkersStep (role_of job appends) shard own s.step → Come start es →
+        Come start (e ∷ es)
+    steps s jobs.Write (inl j) c = joins_one Writer 0 0 s j c
+    steps s jobs.Write (inr (inl leave)) c = leaves_one Writer refl s leave c
+    steps s jobs.Write (inr (inr o)) c = appends_one s o c
+    steps s jobs.Merge (inl (now, lease, j)) c = joins_one Keeper now lease s j c
+    steps s jobs.Merge (inr (inl leave)) c = leaves_one Keeper refl s leave c
+    steps s jobs.Merge (inr (inr m)) c = merges_one s m c
+
+    pub come_on : (job : Job) → IsWorkersEntry (role_of job appends) shard start es e → Come start es → Come start (e ∷ es)
+    come_on job p c = elim (bool_cases (commits_on shard (replay_back start es) e.call e.outcome)) [
       | inr f ↦ idle f c
       | inl t ↦ elim (what_commits shard list start st e es l (commits_there start shard e es t)) [
         | inl b ↦ begun b c
-        | inr s ↦ by_call s (subst (λ (o : Option ℕ). CarriesWorkers appends shard own (calls.Cas shard o s.commit.bytes)) s.expected
-            (subst (CarriesWorkers appends shard own) s.commit.call_is p.carries)) c
+        | inr s ↦ by_call s
+            (subst (λ (o : Option ℕ). CarriesWorkers (role_of job appends) shard own (calls.Cas shard o s.commit.bytes)) s.expected
+            (subst (CarriesWorkers (role_of job appends) shard own) s.commit.call_is p.carries)) c
       ]
     ]
       where
         by_call : (s : Stepped shard list start e es) →
-            CarriesWorkers appends shard own (calls.Cas shard (Some s.number) s.commit.bytes) → Come start es → Come start (e ∷ es)
+            CarriesWorkers (role_of job appends) shard own (calls.Cas shard (Some s.number) s.commit.bytes) → Come start es →
+            Come start (e ∷ es)
         by_call s (here, (to, x, written, step)) k =
             let one = same_version (version_in shard (s.number + 1) s.commit.bytes) to s.to x s.step written s.written in
-            steps s (subst (IsWorkersStep appends shard own) one.1 step) k
+            steps s job (subst (IsWorkersStep (role_of job appends) shard own) one.1 step) k

@@ -26,8 +26,9 @@ use Rattle.worked_histories.proofs.WorkedVersions.{reads3, reads4, reads5}
 use Rattle.crew_core.specs.Competing.{FromWorkers, HasAppended, HasCollection}
 use Rattle.crew_core.specs.Completing.{plain_after}
 use Rattle.appends_core.specs.Feeds.{IsFeed}
+use Rattle.crew_core.specs.declared.jobs.Job.TheVariants as jobs
 use Rattle.crew_core.specs.Keeping.{Keeps}
-use Rattle.crew_core.specs.Working.{IsOneOf, IsWorkersEntry}
+use Rattle.crew_core.specs.Working.{IsOneOf, IsWorkersEntry, as_writer}
 use Rattle.crew_core.proofs.Completing.{empty_law}
 use Rattle.crew_core.proofs.CrewLaws.{competing_law}
 use Rattle.crew_core.proofs.Splits.{head_is, nil_not, tail_is}
@@ -86,19 +87,19 @@ is_late = record {
   holds = (late_part, late_row ∷ [], [], inl (refl, refl), reads_late, one_late, refl);
 }
 
-first_entry : IsWorkersEntry feed the_shard empty_store (reverse (first_calls 8).trail) commits_early
+first_entry : IsWorkersEntry (as_writer feed) the_shard empty_store (reverse (first_calls 8).trail) commits_early
 first_entry = record {
   allowed = lawful_newest empty_store commits_early (reverse (first_calls 8).trail) (lawful_back (first_calls 9) (prefixes_lawful 9));
   carries = (refl, (state4, step4, reads4, inr (inr is_early)));
 }
 
-second_entry : IsWorkersEntry feed the_shard empty_store (reverse (first_calls 9).trail) stores_late
+second_entry : IsWorkersEntry (as_writer feed) the_shard empty_store (reverse (first_calls 9).trail) stores_late
 second_entry = record {
   allowed = lawful_newest empty_store stores_late (reverse (first_calls 9).trail) (lawful_back (first_calls 10) (prefixes_lawful 10));
   carries = tt;
 }
 
-third_entry : IsWorkersEntry feed the_shard empty_store (reverse (first_calls 10).trail) commits_late
+third_entry : IsWorkersEntry (as_writer feed) the_shard empty_store (reverse (first_calls 10).trail) commits_late
 third_entry = record {
   allowed = lawful_newest empty_store commits_late (reverse (first_calls 10).trail) (lawful_back (first_calls 11) (prefixes_lawful 11));
   carries = (refl, (state5, step5, reads5, inr (inr is_late)));
@@ -122,12 +123,12 @@ at_three {A = A} Q x y z p q r (b ∷ before) after e split = go before (tail_is
     go (c ∷ d ∷ more) s =
         absurd (nil_not more after e (tail_is z d [] (more ++ e ∷ after) (tail_is y c (z ∷ []) (d ∷ more ++ e ∷ after) s)))
 
-keeps : (client : ℕ) → Keeps (IsWorkersEntry feed the_shard) the_shard client (first_calls 8) gain
+keeps : (client : ℕ) → Keeps (IsWorkersEntry (as_writer feed) the_shard) the_shard client (first_calls 8) gain
 keeps client before after e split own list st l =
-    at_three (λ (es : List Entry) (f : Entry). IsWorkersEntry feed the_shard empty_store (reverse ((first_calls 8).trail ++ es)) f)
+    at_three (λ (es : List Entry) (f : Entry). IsWorkersEntry (as_writer feed) the_shard empty_store (reverse ((first_calls 8).trail ++ es)) f)
     commits_early stores_late commits_late first_entry second_entry third_entry before after e split
 
-came : FromWorkers feed the_shard ((0, []) ∷ []) (first_calls 8) gain
+came : FromWorkers (λ n. jobs.Write) feed the_shard ((0, []) ∷ []) (first_calls 8) gain
 came = record { each_of = (omega arith, (omega arith, (omega arith, tt))); each_keeps = λ client h. keeps client }
 
 last_before : LastIs (replay_back empty_store (reverse (first_calls 8).trail)) the_shard 3 state3
@@ -139,7 +140,7 @@ before_is = inr (3, state3, last_before, rw accepted_before refl)
 -- the law at work: what the three calls make of the empty collection
 grown : (after : Collection) × HasCollection [] empty_store the_shard (reverse (first_calls 11).trail) after ×
     HasAppended feed empty_collection after
-grown = competing_law feed the_shard [] ((0, []) ∷ []) (first_calls 8) gain (refl, refl, (refl, refl, tt)) starts (prefixes_lawful 8) came
+grown = competing_law (λ n. jobs.Write) feed the_shard [] ((0, []) ∷ []) (first_calls 8) gain (refl, refl, (refl, refl, tt)) starts (prefixes_lawful 8) came
     empty_collection before_is
 
 last_after : LastIs (replay_back empty_store (reverse (first_calls 11).trail)) the_shard 5 state5

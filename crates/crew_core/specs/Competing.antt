@@ -9,7 +9,9 @@ use Rattle.store_core.specs.Stores.{Stored, no_log}
 use Rattle.store_core.specs.Histories.{History}
 use Rattle.store_core.specs.Ports.{with_entries}
 use Rattle.store_core.specs.Newest.{mine_back, replay_back}
+use Rattle.spine_core.specs.declared.batches.Batch.{Batch}
 use Rattle.state_core.specs.declared.transitions.Transition.{Transition}
+use Rattle.state_core.specs.declared.transitions.Transition.TheVariants.{Merge}
 use Rattle.state_core.specs.States.{ShardState}
 use Rattle.state_core.specs.VersionReading.{version_in}
 use Rattle.turnstile.specs.Plays.{EachIn}
@@ -20,8 +22,9 @@ use Rattle.history_core.specs.Legal.{AcceptedAt, CollectionIs}
 use Rattle.history_core.specs.Placing.{Commits, placed}
 use Rattle.history_core.specs.Stands.{StandsFor, accepted}
 use Rattle.appends_core.specs.Feeds.{FollowOn, end_from, from_upper, rows_of, weight_of_all}
+use Rattle.crew_core.specs.declared.jobs.Job.{Job}
 use Rattle.crew_core.specs.Keeping.{Keeps}
-use Rattle.crew_core.specs.Working.{IsOneOf, IsWorkersEntry}
+use Rattle.crew_core.specs.Working.{IsOneOf, IsWorkersEntry, role_of}
 
 -- the collection after these entries: that of the last version, or the empty one where there is no version
 abbrev pub HasCollection : List Update → Stored → ShardId → List Entry → PlainCollection → Type 0
@@ -39,27 +42,29 @@ pub record HasAppended (appends : List FeedAppend) (c d : PlainCollection) : Typ
   pub weight : d.weight ≡ c.weight + weight_of_all done
   pub since : d.since ≡ c.since
 
--- These entries have come to a history from workers: each is of a client among these, and each of these clients kept what a worker keeps.
-pub record FromWorkers (appends : List FeedAppend) (shard : ShardId) (clients : List (ℕ × List Entry)) (h : History)
+-- These entries have come to a history from workers: each is of a client among these, and each of these clients kept what a worker with
+-- its job keeps.
+pub record FromWorkers (jobs : ℕ → Job) (appends : List FeedAppend) (shard : ShardId) (clients : List (ℕ × List Entry)) (h : History)
     (gain : List Entry) : Type 0 where
   pub each_of : EachIn entry_client clients gain
-  pub each_keeps : (client : ℕ) → 0 < times client clients → Keeps (IsWorkersEntry appends shard) shard client h gain
+  pub each_keeps : (client : ℕ) → 0 < times client clients →
+      Keeps (IsWorkersEntry (role_of (jobs client) appends) shard) shard client h gain
 
 -- ---- laws
 
 -- what workers have added to a lawful history leaves it lawful
 abbrev pub WorkersLawful : Type 0
 WorkersLawful =
-    (appends : List FeedAppend) (shard : ShardId) (list : List Update) (clients : List (ℕ × List Entry)) (h : History)
-    (gain : List Entry) → StandsFor h.start shard list → Lawful h → FromWorkers appends shard clients h gain →
+    (jobs : ℕ → Job) (appends : List FeedAppend) (shard : ShardId) (list : List Update) (clients : List (ℕ × List Entry))
+    (h : History) (gain : List Entry) → StandsFor h.start shard list → Lawful h → FromWorkers jobs appends shard clients h gain →
     Lawful (with_entries h gain)
 
 -- And where the appends follow on from 0, the collection afterwards has, past the one before, the first few of them from its upper on.
 abbrev pub CompetingAppends : Type 0
 CompetingAppends =
-    (appends : List FeedAppend) (shard : ShardId) (list : List Update) (clients : List (ℕ × List Entry)) (h : History)
-    (gain : List Entry) → FollowOn (Some 0) appends → StandsFor h.start shard list → Lawful h →
-    FromWorkers appends shard clients h gain →
+    (jobs : ℕ → Job) (appends : List FeedAppend) (shard : ShardId) (list : List Update) (clients : List (ℕ × List Entry))
+    (h : History) (gain : List Entry) → FollowOn (Some 0) appends → StandsFor h.start shard list → Lawful h →
+    FromWorkers jobs appends shard clients h gain →
     (before : PlainCollection) → HasCollection list h.start shard (reverse h.trail) before →
     (after : PlainCollection) × HasCollection list h.start shard (reverse (h.trail ++ gain)) after × HasAppended appends before after
 
@@ -72,3 +77,13 @@ StorersCommitAccepted =
     (k : Commits start shard (placed e es)) (n : ℕ) (to : ShardState) (x : Transition) →
     k.expected ≡ Some n → version_in shard (n + 1) k.bytes ≡ Some (to, x) → (o : IsOneOf appends (mine_back start es e.client) x) →
     AcceptedAt list start shard o.append.rows o.append.lower o.append.upper (placed e es)
+
+-- An entry that commits a merge leaves the accepted updates, and the collection, as they are.
+abbrev pub MergesLeave : Type 0
+MergesLeave =
+    (shard : ShardId) (list : List Update) (start : Stored) (e : Entry) (es : List Entry) → StandsFor start shard list →
+    LawfulBack start (e ∷ es) → (k : Commits start shard (placed e es)) (n : ℕ) (to : ShardState) (member token : ℕ)
+    (left right merged : Batch) → k.expected ≡ Some n →
+    version_in shard (n + 1) k.bytes ≡ Some (to, Merge member token left right merged) →
+    (accepted shard list start (e ∷ es) ≡ accepted shard list start es) ×
+    ((c : PlainCollection) → HasCollection list start shard es c → HasCollection list start shard (e ∷ es) c)

@@ -1,7 +1,6 @@
 -- What a client keeps while its front grows, and that it goes on. docs/DEFINITIONS.md, "Crews".
 use Rattle.std.specs.Prelude.{◌≡◌, ℕ, Option, Some, None, List, ◌++◌, reverse}
 use Rattle.update_core.specs.declared.updates.Update.{Update}
-use Rattle.update_core.specs.declared.appends.FeedAppend.{FeedAppend}
 use Rattle.store_core.specs.declared.shards.ShardId.{ShardId}
 use Rattle.store_core.specs.declared.calls.Call.{Call}
 use Rattle.store_core.specs.declared.replies.Reply.{Reply}
@@ -13,7 +12,7 @@ use Rattle.store_core.specs.Ports.{GainsWhereTold, GrowsByOthers, OfOthers, with
 use Rattle.history_core.specs.Discipline.{Lawful}
 use Rattle.history_core.specs.Stands.{StandsFor}
 use Rattle.crew_core.specs.Keeping.{Keeps}
-use Rattle.crew_core.specs.Working.{IsWorkersEntry}
+use Rattle.crew_core.specs.Working.{IsWorkersEntry, Role}
 
 -- Where the front was told it has grown, and each new entry of the client has P.
 abbrev pub KeepsOn : (Stored → List Entry → Entry → Type 0) → ShardId → ℕ → Option History → Option History → Type 0
@@ -32,19 +31,19 @@ WouldKeep P shard client front call =
 -- what a client keeps as a worker it keeps past entries of others
 abbrev pub KeptPastOthers : Type 0
 KeptPastOthers =
-    (appends : List FeedAppend) (shard : ShardId) (client : ℕ) (front now : Option History) → GrowsByOthers client front now →
-    KeepsOn (IsWorkersEntry appends shard) shard client front now
+    (role : Role) (shard : ShardId) (client : ℕ) (front now : Option History) → GrowsByOthers client front now →
+    KeepsOn (IsWorkersEntry role shard) shard client front now
 
 -- it keeps over both of two stretches what it keeps over each
 abbrev pub KeptTwice : Type 0
 KeptTwice =
-    (appends : List FeedAppend) (shard : ShardId) (client : ℕ) (first then now : Option History) →
-    KeepsOn (IsWorkersEntry appends shard) shard client first then → KeepsOn (IsWorkersEntry appends shard) shard client then now →
-    KeepsOn (IsWorkersEntry appends shard) shard client first now
+    (role : Role) (shard : ShardId) (client : ℕ) (first then now : Option History) →
+    KeepsOn (IsWorkersEntry role shard) shard client first then → KeepsOn (IsWorkersEntry role shard) shard client then now →
+    KeepsOn (IsWorkersEntry role shard) shard client first now
 
 -- and past a call of its own whose entry is a worker's
 abbrev pub KeptPastACall : Type 0
 KeptPastACall =
-    (appends : List FeedAppend) (shard : ShardId) (client : ℕ) (front now : Option History) (call : Call) (reply : Reply) →
-    GainsWhereTold client front now call reply → WouldKeep (IsWorkersEntry appends shard) shard client front call →
-    KeepsOn (IsWorkersEntry appends shard) shard client front now
+    (role : Role) (shard : ShardId) (client : ℕ) (front now : Option History) (call : Call) (reply : Reply) →
+    GainsWhereTold client front now call reply → WouldKeep (IsWorkersEntry role shard) shard client front call →
+    KeepsOn (IsWorkersEntry role shard) shard client front now

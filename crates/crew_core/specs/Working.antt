@@ -2,6 +2,7 @@
 use Rattle.std.specs.Prelude.{⊤, ◌≡◌, ◌⊎◌, ℕ, ◌+◌, Some, List}
 use Rattle.update_core.specs.declared.appends.FeedAppend.{FeedAppend}
 use Rattle.update_core.specs.Updates.{cons, weight_of}
+use Rattle.spine_core.specs.declared.batches.Batch.{Batch}
 use Rattle.store_core.specs.declared.shards.ShardId.{ShardId}
 use Rattle.store_core.specs.declared.part_keys.PartKey.{PartKey}
 use Rattle.store_core.specs.declared.calls.Call.{Call}
@@ -10,14 +11,17 @@ use Rattle.store_core.specs.declared.entries.Entry.{Entry}
 use Rattle.store_core.specs.Stores.{Stored}
 use Rattle.store_core.specs.Ports.{Answered}
 use Rattle.store_core.specs.Newest.{mine_back}
-use Rattle.state_core.specs.declared.kinds.Kind.TheVariants.{Writer}
+use Rattle.state_core.specs.declared.kinds.Kind.{Kind}
+use Rattle.state_core.specs.declared.kinds.Kind.TheVariants.{Writer, Keeper}
 use Rattle.state_core.specs.declared.transitions.Transition.{Transition}
-use Rattle.state_core.specs.declared.transitions.Transition.TheVariants.{Join, Leave, Append}
+use Rattle.state_core.specs.declared.transitions.Transition.TheVariants.{Join, Leave, Append, Merge}
 use Rattle.state_core.specs.Lists.{Among}
 use Rattle.state_core.specs.States.{ShardState}
 use Rattle.state_core.specs.VersionReading.{version_in}
 use Rattle.history_core.specs.Discipline.{Allows, Hold, StoredAs}
 use Rattle.history_core.specs.Members.{JoinedAs}
+use Rattle.crew_core.specs.declared.jobs.Job.{Job}
+use Rattle.crew_core.specs.declared.jobs.Job.TheVariants as jobs
 
 -- The transition is one of these appends: with its range, with parts that the client stored and that hold its rows,
 -- consolidated, and with their weight as handed in.
@@ -31,22 +35,47 @@ pub record IsOneOf (appends : List FeedAppend) (own : List Answered) (x : Transi
   pub step_is : x ≡ Append member token append.lower append.upper parts count (weight_of append.rows)
   pub holds : Hold (StoredAs own) parts (cons append.rows)
 
--- the transition is the leave of a member that the client joined as a writer
-abbrev pub IsOwnLeave : ShardId → List Answered → Transition → Type 0
-IsOwnLeave shard own x = (member : ℕ) × (x ≡ Leave member) × JoinedAs Writer own shard member
+-- the transition is the leave of a member that the client joined as this kind
+abbrev pub IsOwnLeave : Kind → ShardId → List Answered → Transition → Type 0
+IsOwnLeave kind shard own x = (member : ℕ) × (x ≡ Leave member) × JoinedAs kind own shard member
 
--- what a writer of a crew may commit: the join of a writer, the leave of one that it joined, and these appends
-abbrev pub IsWorkersStep : List FeedAppend → ShardId → List Answered → Transition → Type 0
-IsWorkersStep appends shard own x = (x ≡ Join Writer 0 0) ⊎ (IsOwnLeave shard own x ⊎ IsOneOf appends own x)
+-- the transition is the join of a keeper
+abbrev pub IsKeepersJoin : Transition → Type 0
+IsKeepersJoin x = (now : ℕ) × (lease : ℕ) × (x ≡ Join Keeper now lease)
+
+-- the transition is a merge under a token of a member that the client joined as a keeper
+pub record IsOwnMerge (shard : ShardId) (own : List Answered) (x : Transition) : Type 0 where
+  pub member : ℕ
+  pub token : ℕ
+  pub left : Batch
+  pub right : Batch
+  pub merged : Batch
+  pub step_is : x ≡ Merge member token left right merged
+  pub joined : JoinedAs Keeper own shard member
+
+-- what a worker is for, a writer with its appends
+pub data Role : Type 0 where
+  as_writer : List FeedAppend → Role
+  as_compactor : Role
+
+abbrev pub role_of : Job → List FeedAppend → Role
+role_of jobs.Write appends = as_writer appends
+role_of jobs.Merge appends = as_compactor
+
+-- What a worker may commit. A writer of a crew: the join of a writer, the leave of one that it joined, and its appends. A compactor: the
+-- join of a keeper, the leave of one that it joined, and merges.
+abbrev pub IsWorkersStep : Role → ShardId → List Answered → Transition → Type 0
+IsWorkersStep (as_writer appends) shard own x = (x ≡ Join Writer 0 0) ⊎ (IsOwnLeave Writer shard own x ⊎ IsOneOf appends own x)
+IsWorkersStep as_compactor shard own x = IsKeepersJoin x ⊎ (IsOwnLeave Keeper shard own x ⊎ IsOwnMerge shard own x)
 
 -- a Cas past a version is of the crew's shard, and its bytes carry such a transition
-abbrev pub CarriesWorkers : List FeedAppend → ShardId → List Answered → Call → Type 0
-CarriesWorkers appends shard own (calls.Cas at_shard (Some n) bytes) =
+abbrev pub CarriesWorkers : Role → ShardId → List Answered → Call → Type 0
+CarriesWorkers role shard own (calls.Cas at_shard (Some n) bytes) =
     (at_shard ≡ shard) ×
-    ((to : ShardState) × (x : Transition) × (version_in shard (n + 1) bytes ≡ Some (to, x)) × IsWorkersStep appends shard own x)
-CarriesWorkers appends shard own _ = ⊤
+    ((to : ShardState) × (x : Transition) × (version_in shard (n + 1) bytes ≡ Some (to, x)) × IsWorkersStep role shard own x)
+CarriesWorkers role shard own _ = ⊤
 
 -- an entry of a worker, at its place: a call that its client may make, and a Cas carries what a worker may commit
-pub record IsWorkersEntry (appends : List FeedAppend) (shard : ShardId) (start : Stored) (es : List Entry) (e : Entry) : Type 0 where
+pub record IsWorkersEntry (role : Role) (shard : ShardId) (start : Stored) (es : List Entry) (e : Entry) : Type 0 where
   pub allowed : Allows (mine_back start es e.client) e.call
-  pub carries : CarriesWorkers appends shard (mine_back start es e.client) e.call
+  pub carries : CarriesWorkers role shard (mine_back start es e.client) e.call

@@ -1,5 +1,5 @@
 // Laws of what workers do together, each the contract of a function that does nothing. docs/DEFINITIONS.md, "Crews".
-ghost use Rattle.crew_core.specs.Competing.{CompetingAppends, StorersCommitAccepted, WorkersLawful};
+ghost use Rattle.crew_core.specs.Competing.{CompetingAppends, MergesLeave, StorersCommitAccepted, WorkersLawful};
 ghost use Rattle.crew_core.specs.Completing.{BoundStays, CompleteFromEmpty, CompleteIsPlain};
 ghost use Rattle.crew_core.specs.KeepingOn.{KeptPastACall, KeptPastOthers, KeptTwice};
 
@@ -21,8 +21,8 @@ pub fn workers_lawful()
 
 /// And the collection afterwards is the one before, followed by the rows of the first few of the feed's appends from its upper on; its
 /// upper and weight are theirs, its since stays. Supposes what `workers_lawful` does, so that nothing but joins and leaves of writers
-/// and these appends was committed; that there was a collection before; and that the appends follow on from 0, each ending later than
-/// it begins. Nothing of their rows or weights. (docs/DEFINITIONS.md, "Crews".)
+/// and keepers, merges and these appends was committed; that there was a collection before; and that the appends follow on from 0, each
+/// ending later than it begins. Nothing of their rows or weights. (docs/DEFINITIONS.md, "Crews".)
 pub fn competing_appends()
     ensures { CompetingAppends }
 {}
@@ -32,6 +32,12 @@ pub fn competing_appends()
 /// and of other clients' entries no more than that they are lawful. (docs/DEFINITIONS.md, "Crews".)
 pub fn storers_commit_accepted()
     ensures { StorersCommitAccepted }
+{}
+
+/// An entry that commits a merge leaves the accepted updates and the collection as they are, also where its answer was lost. Supposes that
+/// the start stands for a list and that the history is lawful up to and with this entry. (docs/DEFINITIONS.md, "Crews".)
+pub fn merges_leave()
+    ensures { MergesLeave }
 {}
 
 /// Where the upper has come to the feed's end, the collection is the one that one writer alone makes, append by append. Supposes that

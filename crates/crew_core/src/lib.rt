@@ -2,4 +2,7 @@
 //! `docs/DEFINITIONS.md`, "Crews", states them in plain words.
 #![tactic(auto)]
 
+mod jobs;
 pub mod laws;
+
+pub use jobs::Job;

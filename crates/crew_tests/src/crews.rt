@@ -88,12 +88,12 @@ fn try_plan<R: Threads + Wait + Sync, G: Gate + Sync>(
     if !is_feed(&plan.appends) {
         return None;
     }
-    if plan.writers > 64 {
+    if plan.writers > 32 || plan.compactors > 32 {
         return None;
     }
     let store = MemStore::new(alloc, FaultList::new(alloc));
     let pin = Reader::open(alloc, plan.shard, 0, 0);
-    match run_crew(rt, alloc, store, plan, pin, gate) {
+    match run_crew(rt, alloc, store, plan, pin, 0, gate) {
         Ok(end) => Some(left_by(&end)),
         Err(_) => None,
     }
@@ -103,6 +103,7 @@ fn try_crew<R: Threads + Wait + Sync>(
     rt: &R,
     alloc: Global,
     writers: u32,
+    compactors: u32,
     count: u64,
     stop: Option<Stop>,
 ) -> Result<Option<Left>, Fail> {
@@ -114,6 +115,7 @@ fn try_crew<R: Threads + Wait + Sync>(
         shard: ShardId(1),
         appends: appends_of(alloc, count)?,
         writers,
+        compactors,
         stops,
     };
     Ok(try_plan(rt, alloc, &plan, &OpenGate))
@@ -128,16 +130,40 @@ fn one_writer_appends_all(rt: HostRuntime) -> Result<(), Fail> {
         cas: 23,
         calls: 44,
     };
-    assert_eq!(rt; try_crew(&rt, rt.alloc(), 1, 20, None)?, Some(left));
+    assert_eq!(rt; try_crew(&rt, rt.alloc(), 1, 0, 20, None)?, Some(left));
     Ok(())
 }
 
 #[test]
 fn four_writers_finish(rt: HostRuntime) -> Result<(), Fail> {
-    let Some(left) = try_crew(&rt, rt.alloc(), 4, 20, None)? else {
+    let Some(left) = try_crew(&rt, rt.alloc(), 4, 0, 20, None)? else {
         panic!(rt; "no crew")
     };
     assert_eq!(rt; (left.finished, left.stopped), (4, 0));
+    Ok(())
+}
+
+// Compactors merge while writers append, and all of them end.
+#[test]
+fn writers_and_compactors_finish(rt: HostRuntime) -> Result<(), Fail> {
+    let Some(left) = try_crew(&rt, rt.alloc(), 2, 2, 20, None)? else {
+        panic!(rt; "no crew")
+    };
+    assert_eq!(rt; (left.finished, left.stopped), (4, 0));
+    Ok(())
+}
+
+// A compactor is stopped after three calls, and the writer goes on.
+#[test]
+fn a_compactor_stops(rt: HostRuntime) -> Result<(), Fail> {
+    let stop = Some(Stop {
+        worker: 1,
+        calls: 3,
+    });
+    let Some(left) = try_crew(&rt, rt.alloc(), 1, 1, 20, stop)? else {
+        panic!(rt; "no crew")
+    };
+    assert_eq!(rt; (left.finished, left.stopped), (1, 1));
     Ok(())
 }
 
@@ -146,7 +172,7 @@ fn four_writers_finish(rt: HostRuntime) -> Result<(), Fail> {
 fn a_writer_stops(rt: HostRuntime) -> Result<(), Fail> {
     for calls in [0u64, 5] {
         let stop = Some(Stop { worker: 0, calls });
-        let Some(left) = try_crew(&rt, rt.alloc(), 1, 20, stop)? else {
+        let Some(left) = try_crew(&rt, rt.alloc(), 1, 0, 20, stop)? else {
             panic!(rt; "no crew")
         };
         assert_eq!(rt; (left.finished, left.stopped), (0, 1));
@@ -190,6 +216,7 @@ fn either_of_two_writers_may_wait(rt: HostRuntime) -> Result<(), Fail> {
             shard: ShardId(1),
             appends: appends_of(rt.alloc(), 1)?,
             writers: 2,
+            compactors: 0,
             stops: StopList::new(rt.alloc()),
         };
         let gate = TurnGate {

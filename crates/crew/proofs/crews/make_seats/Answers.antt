@@ -4,6 +4,7 @@ use Rattle.crew.proofs.crews.make_seats.Goals as goal
 
 pub loop-worker-preserved : goal.loop-worker-preserved
 loop-worker-preserved g c =
-    let k = seats_on c.args.plan.now.stops c.loop-worker.seats.items c.push.new.self.items _ c.loop-worker.worker
-    c.loop-worker.invariant.count c.in_ok-push.ensures.items c.loop-worker.invariant.placed refl c.stop_of.ensures in
+    let k = seats_on c.args.plan.now c.loop-worker.seats.items c.push.new.self.items _ c.loop-worker.worker
+    c.loop-worker.invariant.count c.in_ok-push.ensures.items c.loop-worker.invariant.placed
+    (record { number = refl; stop = c.stop_of.ensures; job = c.job_of.ensures }) in
     record { count = k.0; placed = k.1 }

@@ -5,5 +5,5 @@ use Rattle.crew.proofs.crews.make_seats.Given as goal
 abbrev pub invariant-loop-worker : goal.invariant-loop-worker
 invariant-loop-worker g l = record {
   count : length l.seats.items ≡ l.worker;
-  placed : PlacedFrom l.plan.stops 0 l.seats.items;
+  placed : PlacedFrom l.plan 0 l.seats.items;
 }

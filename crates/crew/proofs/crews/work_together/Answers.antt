@@ -1,16 +1,16 @@
 use Rattle.std.proofs.Common.{◌≡◌, ℕ, ◌^◌, ap, subst, ◌∙◌, arith}
 use Rattle.std.proofs.Common.{List, sym}
+use Rattle.std.specs.List.{AllByRecursion}
 use Rattle.update_core.specs.declared.appends.FeedAppend.{FeedAppend}
 use Rattle.appends_core.specs.Feeds.{IsFeed}
-use Rattle.shared_store.specs.Fronts.{front_of}
-use Rattle.crew.specs.Crews.{CrewRanOn}
 use Rattle.turnstile.specs.declared.views.View.{View}
 use Rattle.turnstile.specs.Passes.{view}
 use Rattle.turnstile.specs.Rule.{entries_by}
 use Rattle.shared_store.specs.Trails.{entry_client}
 use Rattle.store_core.specs.declared.entries.Entry.{Entry}
-use Rattle.crew.specs.Seats.{EndsOn, NumberedFrom}
+use Rattle.crew.specs.Seats.{HasWorked, NumberedFrom}
 use Rattle.crew.proofs.CrewEnds.{all_numbered, all_placed, all_worked, crew_ran_on, ends_on, first_kin, grows_by_others}
+use Rattle.crew.proofs.Seating.{all_suit, none_kept}
 use Rattle.crew.proofs.crews.work_together.Goals as goal
 
 pub close-requires-clause-whole : goal.close-requires-clause-whole
@@ -24,16 +24,37 @@ close-requires-clause-whole g c =
     let gathered = c.gather.ensures.shares in
     omega arith
 
+pub gather-requires-clause-keeps : goal.gather-requires-clause-keeps
+gather-requires-clause-keeps g c = none_kept c.args.plan.now g.S.Store.history (view c.deal.new.pass)
+    (c.deal.ensures.seen.gain ∙ ap (λ (v : View _ Entry). v.gain) c.requires.first)
+
+pub gather-requires-clause-worked : goal.gather-requires-clause-worked
+gather-requires-clause-worked g c =
+    let appends = c.as_slice-appends.result.now in
+    let shard = c.args.plan.now.shard in
+    let t = c.args.shared.turnstile in
+    subst (λ (xs : List FeedAppend). AllByRecursion (HasWorked xs shard t) c.sit_all.new.seats) c.as_slice-appends.ensures
+    (all_worked appends shard t c.deal.new.seats c.sit_all.new.seats c.sit_all.ensures.length c.sit_all.ensures.worked).0
+
+pub gather-requires-clause-suits : goal.gather-requires-clause-suits
+gather-requires-clause-suits g c =
+    let appends = c.as_slice-appends.result.now in
+    let shard = c.args.plan.now.shard in
+    let t = c.args.shared.turnstile in
+    let len = c.sit_all.ensures.length in
+    let works = c.sit_all.ensures.worked in
+    let low = ap (λ (v : View _ Entry). v.low) c.requires.first in
+    let numbers = subst (λ (n : ℕ). NumberedFrom n c.deal.new.seats) low c.deal.ensures.numbers in
+    all_suit c.args.plan.now 0 c.sit_all.new.seats
+    (all_numbered appends shard t c.deal.new.seats c.sit_all.new.seats 1 len works numbers)
+    (all_placed appends shard t c.args.plan.now 0 c.deal.new.seats c.sit_all.new.seats len works
+    (c.deal.ensures.places c.args.plan.now 0 c.requires.places))
+
 pub returns-clause-ran : goal.returns-clause-ran
 returns-clause-ran g c =
-    let appends = c.as_slice-appends.result.now in
-    let same : appends ≡ c.args.plan.now.appends = c.as_slice-appends.ensures in
-    subst (λ (xs : List FeedAppend). CrewRanOn xs c.args.plan.now.shard (front_of g.S.Store.history (view c.args.pass))
-    (g.S.Store.history c.close.result)) same
-    (crew_ran_on appends c.args.plan.now.shard g.S.Store.history (view c.args.pass) (view c.gather.new.pass)
-    (g.S.Store.history c.close.result) (subst (λ (xs : List FeedAppend). IsFeed xs) (sym same) c.requires.feed)
-    (ap (λ (v : View _ Entry). v.gain) c.requires.first)
-    (c.gather.ensures.start ∙ c.deal.ensures.seen.start) c.gather.ensures.keeps c.close.ensures.history c.close.ensures.own)
+    crew_ran_on c.args.plan.now g.S.Store.history (view c.args.pass) (view c.gather.new.pass)
+    (g.S.Store.history c.close.result) c.requires.feed (ap (λ (v : View _ Entry). v.gain) c.requires.first)
+    (c.gather.ensures.start ∙ c.deal.ensures.seen.start) c.gather.ensures.keeps c.close.ensures.history c.close.ensures.own
 
 pub returns-clause-others : goal.returns-clause-others
 returns-clause-others g c =
@@ -50,19 +71,17 @@ returns-clause-ends g c =
     let first = c.requires.first in
     let appends = c.as_slice-appends.result.now in
     let shard = c.args.plan.now.shard in
-    let stops = c.args.plan.now.stops in
     let low = ap (λ (v : View _ Entry). v.low) first in
     let numbers = subst (λ (n : ℕ). NumberedFrom n c.deal.new.seats) low c.deal.ensures.numbers in
     let t = c.args.shared.turnstile in
     let len = c.sit_all.ensures.length in
     let works = c.sit_all.ensures.worked in
-    let worked = (all_worked appends shard t c.deal.new.seats c.sit_all.new.seats len works).0 in
+    let worked = subst (λ (xs : List FeedAppend). AllByRecursion (HasWorked xs shard t) c.sit_all.new.seats) c.as_slice-appends.ensures
+    (all_worked appends shard t c.deal.new.seats c.sit_all.new.seats len works).0 in
     let numbered = all_numbered appends shard t c.deal.new.seats c.sit_all.new.seats 1 len works numbers in
-    let placed = all_placed appends shard t stops 0 c.deal.new.seats c.sit_all.new.seats len works
-    (c.deal.ensures.places stops 0 c.requires.places) in
-    subst (λ (xs : List FeedAppend). EndsOn xs shard stops (front_of g.S.Store.history (view c.args.pass))
-    (g.S.Store.history c.close.result) c.gather.new.ends) c.as_slice-appends.ensures
-    (ends_on appends shard t stops c.sit_all.new.seats c.gather.new.ends (view c.args.pass) (view c.gather.new.pass)
+    let placed = all_placed appends shard t c.args.plan.now 0 c.deal.new.seats c.sit_all.new.seats len works
+    (c.deal.ensures.places c.args.plan.now 0 c.requires.places) in
+    ends_on c.args.plan.now t c.sit_all.new.seats c.gather.new.ends (view c.args.pass) (view c.gather.new.pass)
     (g.S.Store.history c.close.result)
     (ap (λ (v : View _ Entry). v.gain) first) (c.gather.ensures.start ∙ c.deal.ensures.seen.start) c.gather.ensures.pass.start
-    c.close.ensures.history worked numbered c.gather.ensures.theirs c.gather.ensures.prefix placed c.gather.ensures.ends)
+    c.close.ensures.history worked numbered c.gather.ensures.theirs c.gather.ensures.prefix placed c.gather.ensures.ends

@@ -2,7 +2,8 @@ use Rattle.std.proofs.Common.{◌≡◌, Some, refl, sym, ap, subst, ◌∙◌}
 use Rattle.std.specs.Prelude.{IfSome}
 use Rattle.turnstile.specs.Passes.{view}
 use Rattle.crew.specs.Seats.{IsNew, share_in}
-use Rattle.crew.proofs.Seating.{kin_keeps, one_some}
+use Rattle.crew_core.specs.Working.{role_of}
+use Rattle.crew.proofs.Seating.{is_alone, kin_keeps, one_some}
 use Rattle.crew.proofs.seats.sit.Goals as goal
 
 pub returns : goal.returns
@@ -15,7 +16,10 @@ returns g c =
         pass = c.work_alone-pass.result.0;
         there = refl;
         is_pass = c.work_alone-pass.ensures.pass;
-        keeps = kin_keeps c.args.appends.now c.args.shard g.S.Store.history (view c.in-Some.pass) (view c.work_alone-pass.result.0)
+        alone = is_alone (view c.in-Some.pass) (view c.work_alone-pass.result.0)
+            (subst (λ (p : _). IsNew (view p)) same seated.new) c.work_alone-pass.ensures.same;
+        keeps = kin_keeps (role_of c.args.seat.now.job c.args.appends.now) c.args.shard g.S.Store.history (view c.in-Some.pass)
+            (view c.work_alone-pass.result.0)
             (subst (λ (p : _). IsNew (view p)) same seated.new) c.work_alone-pass.ensures.same c.work_alone-pass.ensures.keeps;
         shown = c.work_alone-pass.ensures.end;
       };
@@ -25,4 +29,5 @@ returns g c =
           ∙ subst (λ (o : _). IfSome o (λ p. (view p).number ≡ n)) (sym c.take.ensures.value ∙ c.in-Some.is) has;
       worker = refl;
       stop = refl;
+      job = refl;
     }

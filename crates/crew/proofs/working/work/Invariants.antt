@@ -7,7 +7,7 @@ use Rattle.crew.proofs.working.work.Given as goal
 
 abbrev pub invariant-loop : goal.invariant-loop
 invariant-loop g l = record {
-  so_far : WorksSoFar (g.W.Worker.appends l.initial.worker) (g.W.Worker.appends l.worker) (g.W.Worker.shard l.initial.worker)
+  so_far : WorksSoFar (g.W.Worker.role l.initial.worker) (g.W.Worker.role l.worker) (g.W.Worker.shard l.initial.worker)
       (g.W.Worker.shard l.worker) (g.W.Worker.ready l.worker) l.initial.port.port.known.number l.port.port.known.number
       (front_of g.S.Store.history l.initial.port.port.known) (front_of g.S.Store.history l.port.port.known);
   below : StaysBelow g.S.Store.history l.fn.stop l.port.port.known;

@@ -1,5 +1,8 @@
 use Rattle.std.proofs.Common.{Ok, ap, ◌∙◌}
-use Rattle.crew.proofs.Turning.{comes_ready, counted_turned, polled_shard, polled_turned, unpolled_turned, went}
+use Rattle.write_client.specs.Machining.{machine}
+use Rattle.write_client.proofs.Machining.{keeps}
+use Rattle.crew.proofs.TurnEnds.{polled_shard}
+use Rattle.crew.proofs.Turning.{comes_ready, counted_turned, polled_turned, unpolled_turned, went}
 use Rattle.crew.proofs.writing.WriterWorker.poll_once.Goals as goal
 
 pub returns-in_default-clause-turned : goal.returns-in_default-clause-turned
@@ -10,8 +13,8 @@ returns-in_default-clause-turned g c =
 
 pub take-requires-clause-of_shard : goal.take-requires-clause-of_shard
 take-requires-clause-of_shard g c =
-    polled_shard (g.P.Port.client c.args.port.now) (g.P.Port.front c.args.port.now) (g.P.Port.front c.poll.new.port)
-    c.args.self.now.writer c.poll.new.self c.in-Ok.poll c.in-Ok.ensures.polled
+    polled_shard machine (g.P.Port.client c.args.port.now) (g.P.Port.front c.args.port.now) (g.P.Port.front c.poll.new.port)
+    c.args.self.now.writer c.poll.new.self keeps c.in-Ok.poll c.in-Ok.ensures.polled
     ∙ c.requires.ready.of_shard
 
 pub returns-clause-turned : goal.returns-clause-turned
