@@ -34,16 +34,25 @@ pub fn calls_from(alloc: Global, trail: &[Entry], place: usize) -> Result<String
     Ok(text)
 }
 
+// The key of a Set or a Delete, and whether it is set.
+fn key_changed(call: &Call) -> Option<(PartKey, bool)> {
+    match call {
+        Call::Set { key, .. } => Some((*key, true)),
+        Call::Delete { key } => Some((*key, false)),
+        _ => None,
+    }
+}
+
 // Whether a key is the one of a Set or a Delete that took effect, and if it is set.
 fn sets_key(entry: &Entry, wanted: PartKey) -> Option<bool> {
     if matches!(entry.outcome, Outcome::FailedLost) {
         return None;
     }
-    match &entry.call {
-        Call::Set { key, .. } if *key == wanted => Some(true),
-        Call::Delete { key } if *key == wanted => Some(false),
-        _ => None,
+    let (key, set) = key_changed(&entry.call)?;
+    if key == wanted {
+        return Some(set);
     }
+    None
 }
 
 // Whether the last of these that sets or deletes the key sets it.
