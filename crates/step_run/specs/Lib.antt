@@ -1,3 +1,5 @@
 pub mod Sayings
 pub mod Faults
 pub mod Stepping
+pub mod Clients
+pub mod Polls

@@ -1,15 +1,19 @@
-//! The command `steps`: a schedule of single store calls, over one store. So far: what one line does that has a client polled, and what
-//! is printed of a client.
+//! The command `steps`: a schedule of single store calls, over one store. So far: what one line does that has a client polled, with the
+//! bound of its command, and what is printed of a client.
 #![tactic(auto)]
 
 mod answers;
+mod polls;
 mod printing;
 mod sayings;
+mod speakers;
 mod step_faults;
 mod stepping;
 
-pub use answers::{collect_says, expire_says, read_says, refusal_says, write_says};
+pub use answers::{expire_says, refusal_says};
+pub use polls::step_open;
 pub use printing::{print_faults, print_head, print_said};
 pub use sayings::Saying;
+pub use speakers::Speaker;
 pub use step_faults::StepFault;
 pub use stepping::{Stepped, step};
