@@ -651,34 +651,16 @@ fn a_system_clock_goes_on(rt: HostRuntime) {
     assert!(rt; clock.now() >= first);
 }
 
-// How many batches the last version in a store's shard 1 has, and how many parts they name.
-fn last_batches(alloc: Global, store: &mut MemStore) -> Result<(usize, usize), Fail> {
+// The batches of the last version in a store's shard 1.
+fn last_batches(alloc: Global, store: &mut MemStore) -> Result<usize, Fail> {
     let head = Call::Head { shard: ShardId(1) };
     if let Reply::Version(Some(version)) = store.call(9, &head)? {
         let bytes = version.bytes.as_slice();
         if let Ok((state, _)) = decode_version(alloc, ShardId(1), version.number, bytes) {
-            let batches = state.spine().batches();
-            let mut parts = 0usize;
-            for batch in batches {
-                parts = parts.saturating_add(batch.parts.as_slice().len());
-            }
-            return Ok((batches.len(), parts));
+            return Ok(state.spine().batches().len());
         }
     }
-    Ok((0, 0))
-}
-
-// How many parts a store has, by its trail: where no call fails a run sets each key once, and a collection deletes it once.
-fn parts_left(trail: &[Entry]) -> usize {
-    let mut left = 0usize;
-    for entry in trail {
-        match &entry.call {
-            Call::Set { .. } => left = left.saturating_add(1),
-            Call::Delete { .. } => left = left.saturating_sub(1),
-            _ => {}
-        }
-    }
-    left
+    Ok(0)
 }
 
 // 200 appends of one row each, the content at their end, a compaction, and the content again.
@@ -702,8 +684,7 @@ fn a_compaction_leaves_few_batches(rt: HostRuntime) -> Result<(), Fail> {
     assert_eq!(rt; ended.status, 0);
     let plain = plain_answer(alloc, &feed)?;
     assert_eq!(rt; taken.as_slice(), plain.as_slice());
-    let (batches, parts) = last_batches(alloc, &mut ended.store)?;
+    let batches = last_batches(alloc, &mut ended.store)?;
     assert!(rt; batches >= 1 && batches <= 64);
-    assert_eq!(rt; parts_left(ended.store.trail()), parts);
     Ok(())
 }
