@@ -1,5 +1,5 @@
 -- What a crew's passes make of its store.
-use Rattle.std.proofs.Common.{◌≡◌, ℕ, suc, ◌+◌, ◌<◌, Option, Some, None, List, [], ◌∷◌, ◌++◌, length, refl, sym, ap, subst, ◌∙◌}
+use Rattle.std.proofs.Common.{◌≡◌, ◌≢◌, ℕ, suc, ◌+◌, ◌<◌, true, false, Option, Some, None, List, [], ◌∷◌, ◌++◌, length, refl, sym, ap, subst, ◌∙◌}
 use Rattle.std.proofs.Common.{arith, append-nil}
 use Rattle.std.specs.Prelude.{◌==◌, slice_index_or}
 use Rattle.std.specs.List.{AllByRecursion}
@@ -28,28 +28,30 @@ use Rattle.history_core.specs.Discipline.{Lawful}
 use Rattle.history_core.proofs.Prefixes.{prefix_lawful}
 use Rattle.crew_core.specs.declared.jobs.Job.{Job}
 use Rattle.crew_core.specs.Keeping.{Keeps}
-use Rattle.crew_core.specs.Working.{IsWorkersEntry, Role, as_compactor, as_writer, role_of}
+use Rattle.crew_core.specs.Working.{IsWorkersEntry, Role, as_collector, as_compactor, as_writer, role_of}
 use Rattle.crew_core.specs.Competing.{FromWorkers}
 use Rattle.crew_core.proofs.CrewLaws.{competing_law, lawful_law}
 use Rattle.crew_core.proofs.Keeping.{entries_joined, keeps_first, of_entries}
-use Rattle.std.specs.Prelude.{IfSome}
+use Rattle.std.specs.Prelude.{IfNone, IfSome, IsSome}
 use Rattle.std.proofs.lemmas.List.{append_cancel_left}
-use Rattle.turnstile.specs.Passes.{first_value, view}
+use Rattle.turnstile.specs.declared.passes.Pass.{Pass}
+use Rattle.turnstile.specs.Passes.{IsPassOf, first_value, view}
 use Rattle.shared_store.specs.Passes.{told_of}
 use Rattle.crew.specs.declared.ends.WorkerEnd.{WorkerEnd}
 use Rattle.crew.specs.declared.ends.WorkerEnd.TheVariants as ends
-use Rattle.crew.specs.Ends.{CompactorMeans, EndMeans, HasMerged, IsAnswered, IsMergeAnswered, Once, UpperIs, WriterMeans}
+use Rattle.crew.specs.Ends.{CollectorMeans, CompactorMeans, EndMeans, HasMerged, IsAnswered, IsMergeAnswered, Once, UpperIs, WasCollected, WriterMeans}
 use Rattle.crew.specs.Looping.{EndCounts}
 use Rattle.crew.specs.declared.seats.Seat.{Seat}
 use Rattle.crew.specs.Crews.{CrewRan, CrewRanOn}
 use Rattle.crew.specs.Posts.{opened}
 use Rattle.crew.specs.Seats.{AllEndAs, CountsAs, EndsAs, EndsOn, HasNumber, HasWorked, IsPrefixOf, KinKeeps, NumberedFrom}
-use Rattle.crew.specs.Seats.{PlacedFrom, Shows, ShowsSeat, Works, ends_of, share_in, shares_of}
+use Rattle.crew.specs.Seats.{IsAlone, PlacedFrom, SeenSame, Suits, Shows, next_number, own_number, ShowsSeat, Works, ends_of, share_in, shares_of}
 use Rattle.crew.specs.declared.plans.Plan.{Plan}
-use Rattle.crew.specs.Plans.{job_in, job_of, role_in}
+use Rattle.crew.specs.Plans.{client_of, job_in, job_of, role_in}
 use Rattle.crew.proofs.Endings.{once_with}
 use Rattle.crew.proofs.PortKeeping.{front_is, some_is}
-use Rattle.crew.proofs.Seating.{rest_of_others}
+use Rattle.crew.proofs.Numbers.{is_client, is_next, next_of}
+use Rattle.crew.proofs.Seating.{kin_as, none_kept, one_some, rest_of_others}
 
 -- an entry among those that are of a kin is of it
 in_kin : (kin : List (ℕ × List Entry)) (older newer : List Entry) (e : Entry) → EachIn entry_client kin (older ++ e ∷ newer) →
@@ -147,6 +149,48 @@ first_kin start kin is = subst (λ (k : List (ℕ × List Entry)). 0 < times 0 k
     one : (once (0 == 0) + 0) ≡ 1 → 0 < once (0 == 0) + 0
     one e = omega arith
 
+-- the pass that no seat took has seen nothing, and the last one shows what it shows: nothing of the first number
+pub others_none : {S : Type 0} {G : Ghosts S} (o : Option (Pass (CountedStore S G) S Entry)) (v w : View S Entry) → IsSome o →
+    IfSome o (λ p. SeenSame v (view p)) → IfSome o (λ p. Shows (view p) w) → v ≡ first_view v.start →
+    entries_by entry_client 0 w.gain ≡ []
+others_none None v w some seen shows first = absurd (let bad : false ≡ true = some in cc)
+others_none (Some p) v w some seen shows first =
+    let kin = seen.kin ∙ ap (λ (u : View _ Entry). u.kin) first in
+    let gain = seen.gain ∙ ap (λ (u : View _ Entry). u.gain) first in
+    (shows 0 (first_kin v.start (view p).kin kin)).1 ∙ ap (entries_by entry_client 0) gain
+
+-- and keeps what it keeps
+pub kept_keeps : {S : Type 0} {G : Ghosts S} (plan : Plan) (t : Turnstile (CountedStore S G) S Entry)
+    (o : Option (Pass (CountedStore S G) S Entry)) (v : View S Entry) → IfSome o (λ p. IsPassOf told_of entry_client t p) →
+    IfSome o (λ p. SeenSame v (view p)) → v.gain ≡ [] →
+    IfSome o (λ p. IsPassOf told_of entry_client t p × KinKeeps (role_in plan) plan.shard G.history (view p))
+kept_keeps plan t None v is seen unseen = tt
+kept_keeps {G = G} plan t (Some p) v is seen unseen = (is, none_kept plan G.history (view p) (seen.gain ∙ unseen))
+
+-- a seat's pass keeps what the client of its number keeps
+pub first_keeps : {S : Type 0} {G : Ghosts S} (plan : Plan) (t : Turnstile (CountedStore S G) S Entry) (seats rest : List (Seat S G))
+    (first : Seat S G) (p : Pass (CountedStore S G) S Entry) → seats ≡ first ∷ rest →
+    AllByRecursion (HasWorked plan.appends plan.shard t) seats → AllByRecursion (Suits plan) seats → first.pass ≡ Some p →
+    KinKeeps (role_in plan) plan.shard G.history (view p)
+first_keeps {S = S} {G = G} plan t seats rest first p is worked suits there =
+    let k = (subst (λ (ss : List (Seat S G)). AllByRecursion (HasWorked plan.appends plan.shard t) ss) is worked).0 in
+    let fits = (subst (λ (ss : List (Seat S G)). AllByRecursion (Suits plan) ss) is suits).0 in
+    let same : k.pass ≡ p = one_some k.pass p (sym k.there ∙ there) in
+    kin_as plan G.history (view p) first.job (subst (λ (q : Pass (CountedStore S G) S Entry). IsAlone (view q)) same k.alone)
+    (subst (λ (o : Option (Pass (CountedStore S G) S Entry)). IfSome o (λ q. first.job ≡ job_in plan (view q).number)) there fits)
+    (subst (λ (q : Pass (CountedStore S G) S Entry). KinKeeps (λ n. role_of first.job plan.appends) plan.shard G.history (view q)) same
+    k.keeps)
+
+-- where there is none there are seats
+pub seats_there : {S : Type 0} {G : Ghosts S} (o : Option (Pass (CountedStore S G) S Entry)) (xs ys : List (Seat S G)) →
+    length ys ≡ length xs → IfNone o (xs ≢ []) → IfNone o (ys ≢ [])
+seats_there {S = S} {G = G} None xs ys len some = λ e. some (none xs (sym len ∙ ap length e))
+  where
+    none : (zs : List (Seat S G)) → length zs ≡ 0 → zs ≡ []
+    none [] e = refl
+    none (z ∷ zs) e = absurd (omega arith)
+seats_there (Some p) xs ys len some = tt
+
 -- what an end means on a front it means on what that has grown to
 pub means_grown : (role : Role) (shard : ShardId) (client : ℕ) (h : History) (xs ys : List Entry) (end : WorkerEnd) →
     IsPrefix xs ys → EndMeans role shard client (Some (with_entries h xs)) end →
@@ -186,10 +230,23 @@ means_grown role shard client h xs ys end (rest, is) = by role end
     of_compactor (ends.Damaged damage) k = tt
     of_compactor ends.Spent k = tt
 
+    of_collector : (e : WorkerEnd) → CollectorMeans shard client (Some (with_entries h xs)) e →
+        CollectorMeans shard client (Some (with_entries h ys)) e
+    of_collector ends.Finished k = on (WasCollected shard client) k
+    of_collector (ends.Misfit upper) k = absurd k
+    of_collector (ends.MembersFull version) k = absurd k
+    of_collector (ends.Heavy weight) k = absurd k
+    of_collector ends.Spent k = absurd k
+    of_collector ends.Stopped k = tt
+    of_collector ends.Faulted k = tt
+    of_collector ends.Memory k = tt
+    of_collector (ends.Damaged damage) k = tt
+
     by : (r : Role) (e : WorkerEnd) → EndMeans r shard client (Some (with_entries h xs)) e →
         EndMeans r shard client (Some (with_entries h ys)) e
     by (as_writer appends) e k = of_writer appends e k
     by as_compactor e k = of_compactor e k
+    by as_collector e k = of_collector e k
 
 module _ {S : Type 0} {G : Ghosts S} (appends : List FeedAppend) (shard : ShardId) (t : Turnstile (CountedStore S G) S Entry) where
   pub all_worked : (xs ys : List (Seat S G)) → length ys ≡ length xs →
@@ -214,7 +271,11 @@ module _ {S : Type 0} {G : Ghosts S} (appends : List FeedAppend) (shard : ShardI
   all_numbered [] (y ∷ ys) n len works h = absurd (omega arith)
   all_numbered (x ∷ xs) [] n len works h = absurd (omega arith)
   all_numbered (x ∷ xs) (y ∷ ys) n len works h =
-      ((works 0 x (omega arith)).number n h.0, all_numbered xs ys (n + 1) (omega arith) (λ i d lt. works (suc i) d (omega arith)) h.1)
+      let first : Works appends shard t x y = works 0 x (omega arith) in (
+        subst (λ (j : Job). HasNumber (own_number j n) y) (sym first.job) (first.number (own_number x.job n) h.0),
+        subst (λ (j : Job). NumberedFrom (next_number j n) ys) (sym first.job)
+            (all_numbered xs ys (next_number x.job n) (omega arith) (λ i d lt. works (suc i) d (omega arith)) h.1),
+      )
 
   -- each seat goes on as its worker's
   pub all_placed : (plan : Plan) (worker : ℕ) (xs ys : List (Seat S G)) → length ys ≡ length xs →
@@ -267,19 +328,20 @@ module _ {S : Type 0} {G : Ghosts S} (appends : List FeedAppend) (shard : ShardI
 module _ {S : Type 0} {G : Ghosts S} (plan : Plan) (t : Turnstile (CountedStore S G) S Entry) where
   pub all_end : (worker : ℕ) (ss : List (Seat S G)) (w : View S Entry) (h : History) →
       opened G.history w ≡ Some h → w.start ≡ told_of (first_value t) → AllByRecursion (HasWorked plan.appends plan.shard t) ss →
-      NumberedFrom (worker + 1) ss → AllByRecursion (ShowsSeat w) ss → AllByRecursion (IsPrefixOf w) ss → PlacedFrom plan worker ss →
-      AllEndAs plan worker (ends_of ss) h w.gain
+      NumberedFrom (next_of plan worker) ss → AllByRecursion (ShowsSeat w) ss → AllByRecursion (IsPrefixOf w) ss →
+      PlacedFrom plan worker ss → AllEndAs plan worker (ends_of ss) h w.gain
   all_end worker [] w h told start a b c d e = tt
   all_end worker (s ∷ ss) w h told start a b c d e = (
-    subst (λ (o : Option ℕ). EndsAs (role_of (job_of plan worker) plan.appends) plan.shard (worker + 1) o s.end h w.gain) e.0.stop
-        (subst (λ (j : Job). EndsAs (role_of j plan.appends) plan.shard (worker + 1) s.stop s.end h w.gain) e.0.job
-        (one_ends plan.appends plan.shard t (worker + 1) s w h told start a.0 b.0 c.0 d.0)),
-    all_end (worker + 1) ss w h told start a.1 b.1 c.1 d.1 e.1,
+    subst (λ (o : Option ℕ). EndsAs (role_of (job_of plan worker) plan.appends) plan.shard (client_of plan worker) o s.end h w.gain)
+        e.0.stop
+        (subst (λ (j : Job). EndsAs (role_of j plan.appends) plan.shard (client_of plan worker) s.stop s.end h w.gain) e.0.job
+        (one_ends plan.appends plan.shard t (client_of plan worker) s w h told start a.0 (is_client plan worker s e.0 b.0) c.0 d.0)),
+    all_end (worker + 1) ss w h told start a.1 (is_next plan worker s e.0 ss b.1) c.1 d.1 e.1,
   )
 
   pub ends_on : (ss : List (Seat S G)) (rs : List WorkerEnd) (v w : View S Entry) (now : Option History) →
       v.gain ≡ [] → w.start ≡ v.start → w.start ≡ told_of (first_value t) → now ≡ front_of G.history w →
-      AllByRecursion (HasWorked plan.appends plan.shard t) ss → NumberedFrom 1 ss → AllByRecursion (ShowsSeat w) ss →
+      AllByRecursion (HasWorked plan.appends plan.shard t) ss → NumberedFrom (next_of plan 0) ss → AllByRecursion (ShowsSeat w) ss →
       AllByRecursion (IsPrefixOf w) ss → PlacedFrom plan 0 ss → rs ≡ ends_of ss →
       EndsOn plan (front_of G.history v) now rs
   ends_on ss rs v w now unseen start first now_is a b c d e same h gain before after = go (opened G.history v) refl

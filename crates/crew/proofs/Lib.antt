@@ -1,12 +1,15 @@
 mod Among
 mod Beginnings
 mod Crossing
+mod CollectTurning
 mod CrewEnds
 mod Endings
 mod Looping
 mod MergeBeginnings
 mod MergeCarries
 mod MergeTurning
+mod Numbers
+mod PinFollows
 mod PortKeeping
 mod Reaching
 mod RoleKeeping

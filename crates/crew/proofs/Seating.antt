@@ -1,19 +1,23 @@
 -- What a worker's work makes of its seat.
 use Rattle.std.proofs.Common.{◌⊎◌, inl, inr, ◌≡◌, ℕ, ◌+◌, ◌-◌, ◌<◌, zero, suc, cond, Bool, true, false, Option, Some, None, List, [], ◌∷◌}
 use Rattle.std.proofs.Common.{◌++◌, length, refl, sym, ap, subst, ◌∙◌, arith}
-use Rattle.std.specs.Prelude.{◌==◌, IfSome}
+use Rattle.std.specs.Prelude.{◌==◌, IfSome, IsSome}
 use Rattle.std.proofs.lemmas.Bool.Decides.{nat_tests}
 use Rattle.state_core.proofs.ListLemmas.{bool_cases}
 use Rattle.std.specs.List.{AllByRecursion}
 use Rattle.turnstile.specs.declared.views.View.{View}
 use Rattle.turnstile.specs.declared.passes.Pass.{Pass}
-use Rattle.turnstile.specs.Passes.{view}
+use Rattle.turnstile.specs.declared.passes.Pass.{Pass}
+use Rattle.turnstile.specs.declared.turnstiles.Turnstile.{Turnstile}
+use Rattle.turnstile.specs.Passes.{IsPassOf, view}
 use Rattle.turnstile.specs.Rule.{entries_by, once, times}
 use Rattle.store_core.specs.declared.entries.Entry.{Entry}
 use Rattle.store_core.specs.declared.shards.ShardId.{ShardId}
 use Rattle.store_core.specs.Histories.{History}
 use Rattle.store_core.specs.Ports.{OfOthers, with_entries}
 use Rattle.shared_store.specs.declared.counted_stores.CountedStore.{CountedStore}
+use Rattle.shared_store.specs.declared.counted_stores.CountedStore.{CountedStore}
+use Rattle.shared_store.specs.Passes.{told_of}
 use Rattle.shared_store.specs.Fronts.{front_of, told_history}
 use Rattle.crew_core.specs.declared.jobs.Job.{Job}
 use Rattle.crew_core.specs.Keeping.{Keeps}
@@ -26,7 +30,7 @@ use Rattle.crew.specs.declared.seats.Seat.{Seat}
 use Rattle.crew.specs.declared.plans.Plan.{Plan}
 use Rattle.crew.specs.Plans.{job_in, job_of, role_in}
 use Rattle.std.proofs.lemmas.List.{length-append}
-use Rattle.crew.specs.Seats.{IsAlone, IsNew, IsPlaceFor, KinKeeps, NumberedFrom, PlacedFrom, Shows, Suits}
+use Rattle.crew.specs.Seats.{IsAlone, IsNew, IsPlaceFor, IsSeated, KinKeeps, PlacedFrom, SeenSame, Shows}
 use Rattle.crew.proofs.PortKeeping.{front_is, opened_same, rest_is, some_is}
 use Rattle.std.proofs.lemmas.List.{append-nil, append_cancel_left}
 use mathlib.Core.List.{IsPrefix}
@@ -189,22 +193,48 @@ seats_on plan xs ys s worker len is placed place = (
     here : (n : ℕ) → length xs ≡ n → n ≡ 0 + length xs
     here n e = omega arith
 
--- the seats suit the plan once their passes are numbered
-pub all_suit : {S : Type 0} {G : Ghosts S} (plan : Plan) (worker : ℕ) (ss : List (Seat S G)) → NumberedFrom (worker + 1) ss →
-    PlacedFrom plan worker ss → AllByRecursion (Suits plan) ss
-all_suit plan worker [] numbered placed = tt
-all_suit {S = S} {G = G} plan worker (s ∷ ss) numbered placed = (one s.pass numbered.0, all_suit plan (worker + 1) ss numbered.1 placed.1)
-  where
-    back : (n : ℕ) → (n + 1) - 1 ≡ n
-    back n = omega arith
-
-    one : (o : Option (Pass (CountedStore S G) S Entry)) → IfSome o (λ p. (view p).number ≡ worker + 1) → IfSome o (λ p. s.job ≡ job_in plan (view p).number)
-    one None k = tt
-    one (Some p) k = placed.0.job ∙ ap (job_of plan) (sym (back worker) ∙ ap (λ n. n - 1) (sym k))
-
 -- a pass that has seen nothing keeps it
 pub none_kept : {S : Type 0} (plan : Plan) (history : S → Option History) (v : View S Entry) → v.gain ≡ [] →
     KinKeeps (role_in plan) plan.shard history v
 none_kept plan history v unseen n in_kin h told =
     subst (λ (es : List Entry). Keeps (IsWorkersEntry (role_in plan n) plan.shard) plan.shard n h es) (sym unseen)
     (keeps_none (IsWorkersEntry (role_in plan n) plan.shard) plan.shard n h)
+
+-- a seat that takes the pass that comes back
+pub seated_back : {S : Type 0} {G : Ghosts S} (t : Turnstile (CountedStore S G) S Entry) (s : Seat S G)
+    (o : Option (Pass (CountedStore S G) S Entry)) (v : View S Entry) → s.pass ≡ o → IsSome o →
+    IfSome o (λ p. IsPassOf told_of entry_client t p) → IfSome o (λ p. SeenSame v (view p)) → IsNew v → IsSeated t s
+seated_back t s None v there some is_pass seen new = absurd (let bad : false ≡ true = some in cc)
+seated_back t s (Some p) v there some is_pass seen new = record {
+  pass = p;
+  there = there;
+  is_pass = is_pass;
+  new = record {
+    kin = seen.kin ∙ new.kin ∙ ap (λ (n : ℕ). (n, []) ∷ []) (sym seen.number);
+    gain = seen.gain ∙ new.gain;
+  };
+}
+
+-- it has the number of the pass
+pub number_back : {S : Type 0} {G : Ghosts S} (o : Option (Pass (CountedStore S G) S Entry)) (v : View S Entry) (n : ℕ) → v.number ≡ n →
+    IfSome o (λ p. SeenSame v (view p)) → IfSome o (λ p. (view p).number ≡ n)
+number_back None v n is seen = tt
+number_back (Some p) v n is seen = seen.number ∙ is
+
+-- a pass that has seen what a new one has is new
+pub new_still : {S : Type 0} (v w : View S Entry) → IsNew v → SeenSame v w → IsNew w
+new_still v w new seen = record {
+  kin = seen.kin ∙ new.kin ∙ ap (λ (n : ℕ). (n, []) ∷ []) (sym seen.number);
+  gain = seen.gain ∙ new.gain;
+}
+
+-- what was seen since
+pub seen_then : {S : Type 0} {G : Ghosts S} (u v : View S Entry) (o : Option (Pass (CountedStore S G) S Entry)) → SeenSame u v →
+    IfSome o (λ p. SeenSame v (view p)) → IfSome o (λ p. SeenSame u (view p))
+seen_then u v None a b = tt
+seen_then u v (Some p) a b = record {
+  number = b.number ∙ a.number;
+  start = b.start ∙ a.start;
+  kin = b.kin ∙ a.kin;
+  gain = b.gain ∙ a.gain;
+}

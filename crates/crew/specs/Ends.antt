@@ -12,15 +12,16 @@ use Rattle.history_core.specs.declared.asked.Asked.{Asked}
 use Rattle.history_core.specs.declared.asked.Asked.TheVariants as asks
 use Rattle.history_core.specs.declared.write_answers.WriteAnswer.{WriteAnswer}
 use Rattle.history_core.specs.declared.write_answers.WriteAnswer.TheVariants as answers
+use Rattle.history_core.specs.declared.collect_answers.CollectAnswer.{CollectAnswer}
 use Rattle.history_core.specs.declared.merge_answers.MergeAnswer.{MergeAnswer}
 use Rattle.history_core.specs.declared.merge_answers.MergeAnswer.TheVariants as merges
 use Rattle.history_core.specs.Laws.{LastIs}
 use Rattle.history_core.specs.Legal.{Command, LegalWriteBack}
-use Rattle.history_core.specs.Upkeep.{LegalMergeBack}
+use Rattle.history_core.specs.Upkeep.{LegalCollectBack, LegalMergeBack}
 use Rattle.load_core.specs.Fronts.{Backwards, WhereLawful}
 use Rattle.appends_core.specs.Feeds.{end_of_feed}
 use Rattle.crew_core.specs.Completing.{IsBound}
-use Rattle.crew_core.specs.Working.{Role, as_compactor, as_writer}
+use Rattle.crew_core.specs.Working.{Role, as_collector, as_compactor, as_writer}
 use Rattle.crew.specs.declared.ends.WorkerEnd.{WorkerEnd}
 use Rattle.crew.specs.declared.ends.WorkerEnd.TheVariants as ends
 
@@ -113,7 +114,30 @@ CompactorMeans shard client front (ends.Misfit upper) = ⊥
 CompactorMeans shard client front (ends.Heavy weight) = ⊥
 CompactorMeans shard client front _ = ⊤
 
+-- a collector's answer is legal to a command of this client
+pub record IsCollectAnswered (shard : ShardId) (client : ℕ) (answer : CollectAnswer) (start : Stored) (es : List Entry)
+    (list : List Update) : Type 0 where
+  pub command : Command
+  pub client_is : command.client ≡ client
+  pub shard_is : command.shard ≡ shard
+  pub legal : LegalCollectBack start es command answer
+
+-- a collection was done
+abbrev pub WasCollected : ShardId → ℕ → Stored → List Entry → List Update → Type 0
+WasCollected shard client start es list =
+    (answer : CollectAnswer) × IsCollectAnswered shard client answer start es list
+
+-- Of a collector: finished, that a collection of it was done. It joins and appends nothing, and is never told that no number is left.
+abbrev pub CollectorMeans : ShardId → ℕ → Option History → WorkerEnd → Type 0
+CollectorMeans shard client front ends.Finished = WhereLawful shard front (Backwards (Once (WasCollected shard client)))
+CollectorMeans shard client front (ends.MembersFull version) = ⊥
+CollectorMeans shard client front (ends.Misfit upper) = ⊥
+CollectorMeans shard client front (ends.Heavy weight) = ⊥
+CollectorMeans shard client front ends.Spent = ⊥
+CollectorMeans shard client front _ = ⊤
+
 -- what an end says, by what the worker is for
 abbrev pub EndMeans : Role → ShardId → ℕ → Option History → WorkerEnd → Type 0
 EndMeans (as_writer appends) shard client front end = WriterMeans appends shard client front end
 EndMeans as_compactor shard client front end = CompactorMeans shard client front end
+EndMeans as_collector shard client front end = CollectorMeans shard client front end

@@ -3,6 +3,7 @@ pub mod Plans
 pub mod Ends
 pub mod Writing
 pub mod Merging
+pub mod Collecting
 pub mod Turns
 pub mod Posts
 pub mod Looping

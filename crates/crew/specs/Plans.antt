@@ -1,5 +1,5 @@
 -- What a plan says of its workers, and which client of the trail each is. docs/DEFINITIONS.md, "Crews that run".
-use Rattle.std.specs.Prelude.{ℕ, ◌+◌, ◌-◌, nat_lt, if◌then◌else◌}
+use Rattle.std.specs.Prelude.{ℕ, ◌+◌, ◌-◌, ◌==◌, nat_le, nat_lt, if◌then◌else◌}
 use Rattle.crew_core.specs.declared.jobs.Job.{Job}
 use Rattle.crew_core.specs.declared.jobs.Job.TheVariants as jobs
 use Rattle.crew_core.specs.Working.{Role, role_of}
@@ -7,18 +7,26 @@ use Rattle.crew.specs.declared.plans.Plan.{Plan}
 
 -- how many workers it has
 abbrev pub workers_of : Plan → ℕ
-workers_of plan = plan.writers + plan.compactors
+workers_of plan = plan.writers + plan.compactors + plan.collectors
 
--- what a worker is for: writers come first, then compactors
+-- the number of the first collector, where there is one
+abbrev pub first_of : Plan → ℕ
+first_of plan = plan.writers + plan.compactors
+
+-- what a worker is for: writers come first, then compactors, then collectors, of which the first works as the pin's client
 abbrev pub job_of : Plan → ℕ → Job
-job_of plan worker = if nat_lt worker plan.writers then jobs.Write else jobs.Merge
+job_of plan worker =
+    if nat_lt worker plan.writers then jobs.Write
+    else if nat_lt worker (first_of plan) then jobs.Merge
+    else if worker == first_of plan then jobs.Pin else jobs.Collect
 
--- the client of the trail that a worker is, and the worker that a client is
+-- The client of the trail that a worker is: the first collector is client 0, and the others are those from 1 on, in their order.
 abbrev pub client_of : Plan → ℕ → ℕ
-client_of plan worker = worker + 1
+client_of plan worker = if worker == first_of plan then 0 else if nat_lt worker (first_of plan) then worker + 1 else worker
 
+-- and the worker that a client is
 abbrev pub worker_of : Plan → ℕ → ℕ
-worker_of plan client = client - 1
+worker_of plan client = if client == 0 then first_of plan else if nat_le client (first_of plan) then client - 1 else client
 
 -- what a client is for
 abbrev pub job_in : Plan → ℕ → Job

@@ -1,5 +1,5 @@
 -- Seats of a crew, each with a worker's pass.
-use Rattle.std.specs.Prelude.{⊤, ◌≡◌, ℕ, ◌+◌, ◌<◌, Option, Some, None, IfSome, List, [], ◌∷◌, length}
+use Rattle.std.specs.Prelude.{⊤, ◌≡◌, ℕ, ◌+◌, ◌<◌, true, false, if◌then◌else◌, Option, Some, None, IfSome, List, [], ◌∷◌, length}
 use Rattle.update_core.specs.declared.appends.FeedAppend.{FeedAppend}
 use mathlib.Core.List.{IsPrefix}
 use Rattle.turnstile.specs.declared.views.View.{View}
@@ -16,7 +16,8 @@ use Rattle.shared_store.specs.declared.counted_stores.CountedStore.{CountedStore
 use Rattle.shared_store.specs.Passes.{told_of}
 use Rattle.shared_store.specs.Trails.{entry_client}
 use Rattle.crew_core.specs.Keeping.{Keeps}
-use Rattle.crew_core.specs.Working.{IsWorkersEntry, Role, role_of}
+use Rattle.crew_core.specs.Working.{IsWorkersEntry, Role, is_pin, role_of}
+use Rattle.crew_core.specs.declared.jobs.Job.{Job}
 use Rattle.crew.specs.declared.ends.WorkerEnd.{WorkerEnd}
 use Rattle.crew.specs.declared.ends.WorkerEnd.TheVariants as ends
 use Rattle.crew.specs.declared.seats.Seat.{Seat}
@@ -51,6 +52,13 @@ AllEndAs plan worker (e ∷ more) h gain =
 abbrev pub EndsOn : Plan → Option History → Option History → List WorkerEnd → Type 0
 EndsOn plan before now ends =
     (h : History) (gain : List Entry) → before ≡ Some h → now ≡ Some (with_entries h gain) → AllEndAs plan 0 ends h gain
+
+-- the number of a seat's pass, where this is the next one, and the next one after it
+abbrev pub own_number : Job → ℕ → ℕ
+own_number job n = if is_pin job then 0 else n
+
+abbrev pub next_number : Job → ℕ → ℕ
+next_number job n = if is_pin job then n else n + 1
 
 module _ {S : Type 0} where
   -- each entry that the pass has seen of a number that it answers for is one of a worker in that number's role
@@ -112,10 +120,19 @@ module _ {S : Type 0} {G : Ghosts S} where
   abbrev pub HasNumber : ℕ → Seat S G → Type 0
   HasNumber n s = IfSome s.pass (λ p. (view p).number ≡ n)
 
-  -- the seats' passes are numbered from this number on
+  -- the seats' passes are numbered from this number on, but for that of the pin's client, which has number 0
   abbrev pub NumberedFrom : ℕ → List (Seat S G) → Type 0
   NumberedFrom n [] = ⊤
-  NumberedFrom n (s ∷ ss) = HasNumber n s × NumberedFrom (n + 1) ss
+  NumberedFrom n (s ∷ ss) = HasNumber (own_number s.job n) s × NumberedFrom (next_number s.job n) ss
+
+  -- no seat is that of the pin's client; one at most is
+  abbrev pub NoPin : List (Seat S G) → Type 0
+  NoPin [] = ⊤
+  NoPin (s ∷ ss) = (is_pin s.job ≡ false) × NoPin ss
+
+  abbrev pub OnePin : List (Seat S G) → Type 0
+  OnePin [] = ⊤
+  OnePin (s ∷ ss) = (is_pin s.job ≡ true → NoPin ss) × OnePin ss
 
   -- the seat is the worker's, with its job and its stop number
   pub record IsPlaceFor (plan : Plan) (worker : ℕ) (s : Seat S G) : Type 0 where

@@ -1,5 +1,5 @@
 // A crew: workers that share one store, each in a thread of its own.
-ghost use Rattle.std.specs.Prelude.{◌≡◌, ◌≤◌, ℕ, length, vec_len, IfErr, IfOk};
+ghost use Rattle.std.specs.Prelude.{◌≡◌, ◌≤◌, ◌⊎◌, ℕ, None, length, vec_len, IfErr, IfOk};
 ghost use Rattle.store_core.specs.Ports.{GrowsByOthers};
 ghost use Rattle.read_client.specs.Following.{FollowsWhere};
 ghost use Rattle.turnstile.specs.Passes.{view};
@@ -16,7 +16,7 @@ use crate::ends::WorkerEnd;
 use crate::gates::Gate;
 use crate::plans::Plan;
 use crate::progress::Progress;
-use crate::seats::{Seat, deal, gather, sit_all};
+use crate::seats::{Seat, deal, gather_all, sit_all};
 use read_client::Reader;
 use shared_store::{CountedStore, SharedStore};
 use std::alloc::{AllocError, Global};
@@ -45,7 +45,7 @@ fn work_together<S: Store + Send, G: Gate + Sync, R: Threads + Wait + Sync>(
     rt: &R,
     alloc: Global,
     shared: SharedStore<S>,
-    mut pass: Pass<CountedStore<S>>,
+    pass: Pass<CountedStore<S>>,
     gate: &G,
     plan: &Plan,
     moment: u64,
@@ -55,17 +55,18 @@ fn work_together<S: Store + Send, G: Gate + Sync, R: Threads + Wait + Sync>(
     requires pass { IsPassOfStore shared pass }
     requires first { view pass ≡ first_view (view pass).start }
     requires feed { IsFeed plan.now.appends }
-    requires few { length seats.old ≤ 64 }
+    requires few { workers_of plan.now ≤ 64 }
+    requires count { length seats.old ≡ workers_of plan.now }
     requires room { length ends.old ≡ length seats.old }
     requires places { PlacedFrom plan.now 0 seats.old }
     ensures ran { CrewRanOn plan.now (front_of S.history (view pass)) (S.history result) }
-    ensures others { GrowsByOthers 0 (front_of S.history (view pass)) (S.history result) }
+    ensures others { plan.now.collectors ≡ 0 → GrowsByOthers 0 (front_of S.history (view pass)) (S.history result) }
     ensures ends { EndsOn plan.now (front_of S.history (view pass)) (S.history result) ends.new }
     ensures length { length ends.new ≡ length seats.old }
 {
     let appends = plan.appends.as_slice();
     let progress = Progress::new(plan.writers);
-    deal(&shared.turnstile, &mut pass, seats);
+    let kept = deal(&shared.turnstile, pass, seats);
     sit_all(
         rt,
         alloc,
@@ -77,7 +78,7 @@ fn work_together<S: Store + Send, G: Gate + Sync, R: Threads + Wait + Sync>(
         &progress,
         seats,
     );
-    gather(&shared.turnstile, &mut pass, plan, seats, ends);
+    let pass = gather_all(&shared.turnstile, kept, plan, seats, ends);
     shared.close(pass)
 }
 
@@ -112,9 +113,10 @@ fn make_ends(alloc: Global, plan: &Plan) -> Result<Vec<WorkerEnd>, AllocError>
     Ok(ends)
 }
 
-/// Workers try the plan's appends at the store and merge what is due, each in a thread of its own, until all have ended. The moment is the
-/// one at which the leases of compactors begin. Client 0, as which the pin reads, makes no call meanwhile, and the pin follows also
-/// afterwards. The store and the pin come back as they were handed in where memory
+/// Workers try the plan's appends at the store, merge what is due and collect what lies below the floor, each in a thread of its own, until
+/// all have ended. The moment is the one at which the leases of compactors begin. Client 0, as which the pin reads, makes no call meanwhile
+/// unless there are collectors, and then those of the first one; the pin follows also afterwards, where no command of it is open or there
+/// are no collectors. The store and the pin come back as they were handed in where memory
 /// was refused before any worker started. This waits for the workers. (docs/DEFINITIONS.md, "Crews that run".)
 pub fn run_crew<S: Store + Send, G: Gate + Sync, R: Threads + Wait + Sync>(
     rt: &R,
@@ -131,9 +133,10 @@ pub fn run_crew<S: Store + Send, G: Gate + Sync, R: Threads + Wait + Sync>(
     ensures workers { IfOk result (λ end. length end.ends ≡ workers_of plan.now) }
     ensures ends { IfOk result (λ end. EndsOn plan.now (S.history store) (S.history end.store)
         end.ends) }
-    ensures others { IfOk result (λ end. GrowsByOthers 0 (S.history store) (S.history end.store)) }
+    ensures others { IfOk result (λ end. plan.now.collectors ≡ 0 → GrowsByOthers 0 (S.history store) (S.history end.store)) }
     ensures pin { IfOk result (λ end. end.pin ≡ pin) }
-    ensures follows { IfOk result (λ end. FollowsWhere 0 (S.history store) pin → FollowsWhere 0 (S.history end.store) end.pin) }
+    ensures follows { IfOk result (λ end. (plan.now.collectors ≡ 0) ⊎ (pin.asked ≡ None) → FollowsWhere 0 (S.history store) pin
+        → FollowsWhere 0 (S.history end.store) end.pin) }
     ensures memory { IfErr result (λ back. (back.store ≡ store) × (back.pin ≡ pin)) }
 {
     let Ok(mut seats) = make_seats(alloc, plan) else {

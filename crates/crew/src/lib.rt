@@ -1,6 +1,7 @@
 //! Workers that share one store, each in a thread of its own. `docs/DEFINITIONS.md`, "Crews that run", states what they promise.
 #![tactic(auto)]
 
+mod collecting;
 mod crews;
 mod end_lists;
 mod ends;

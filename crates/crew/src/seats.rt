@@ -1,5 +1,5 @@
 // Seats of a crew.
-ghost use Rattle.std.specs.Prelude.{◌≡◌, ◌+◌, ◌*◌, ◌^◌, ◌≤◌, ◌<◌, ℕ, [], length, slice_index_or};
+ghost use Rattle.std.specs.Prelude.{◌≡◌, ◌≢◌, ◌+◌, ◌*◌, ◌^◌, ◌≤◌, ◌<◌, ℕ, [], length, slice_index_or, IfNone, IfSome, IsSome};
 ghost use Rattle.std.specs.List.{AllByRecursion};
 ghost use mathlib.Core.List.{IsPrefix};
 ghost use Rattle.turnstile.specs.Passes.{IsPassOf, view};
@@ -8,7 +8,7 @@ ghost use Rattle.shared_store.specs.Trails.{entry_client};
 ghost use Rattle.appends_core.specs.Feeds.{IsFeed};
 ghost use Rattle.crew.specs.declared.plans.Plan.{Plan};
 ghost use Rattle.crew.specs.Plans.{role_in};
-ghost use Rattle.crew.specs.Seats.{HasNumber, HasWorked, IsPrefixOf, IsSeated, KinKeeps, NumberedFrom, PlacedFrom, SeenSame};
+ghost use Rattle.crew.specs.Seats.{HasNumber, HasWorked, IsNew, IsPrefixOf, IsSeated, KinKeeps, NoPin, NumberedFrom, OnePin, PlacedFrom, SeenSame};
 ghost use Rattle.crew.specs.Seats.{Shows, ShowsSeat, Suits, Works, ends_of, share_in, shares_of};
 
 use crate::ends::WorkerEnd;
@@ -106,54 +106,64 @@ pub(crate) fn sit_all<S: Store + Send, G: Gate + Sync, R: Threads + Wait + Sync>
     );
 }
 
-// Deals a new pass to a seat.
+// Deals a new pass, split off this one, to a seat.
 fn deal_one<S: Store>(
     turnstile: &Turnstile<CountedStore<S>>,
-    pass: &mut Pass<CountedStore<S>>,
+    mut pass: Pass<CountedStore<S>>,
     seat: &mut Seat<S>,
-)
-    requires pass { IsPassOf told_of entry_client turnstile.now pass.old }
-    requires unseen { (view pass.old).gain ≡ [] }
-    requires some { 0 < (view pass.old).stock }
-    ensures pass { IsPassOf told_of entry_client turnstile.now pass.new }
-    ensures seen { SeenSame (view pass.old) (view pass.new) }
+) -> Pass<CountedStore<S>>
+    requires pass { IsPassOf told_of entry_client turnstile.now pass }
+    requires unseen { (view pass).gain ≡ [] }
+    requires some { 0 < (view pass).stock }
+    ensures pass { IsPassOf told_of entry_client turnstile.now result }
+    ensures seen { SeenSame (view pass) (view result) }
     ensures seated { IsSeated turnstile.now seat.new }
-    ensures share { (view pass.new).share + share_in seat.new.pass ≡ (view pass.old).share }
-    ensures stock { (view pass.old).stock + 1 ≤ 2 * ((view pass.new).stock + 1) }
-    ensures number { HasNumber (view pass.old).low seat.new }
-    ensures low { (view pass.new).low ≡ (view pass.old).low + 1 }
+    ensures share { (view result).share + share_in seat.new.pass ≡ (view pass).share }
+    ensures stock { (view pass).stock + 1 ≤ 2 * ((view result).stock + 1) }
+    ensures number { HasNumber (view pass).low seat.new }
+    ensures low { (view result).low ≡ (view pass).low + 1 }
     ensures worker { seat.new.worker ≡ seat.old.worker }
     ensures stop { seat.new.stop ≡ seat.old.stop }
     ensures job { seat.new.job ≡ seat.old.job }
 {
-    let Ok(other) = turnstile.split(pass) else {
+    let Ok(other) = turnstile.split(&mut pass) else {
         unreachable!()
     };
     seat.pass = Some(other);
+    pass
 }
 
-/// Deals a new pass to each seat, split off this one in the order of the seats.
+/// Deals a pass to each seat: to that of the pin's client this one, and to each other a new one, split off it in the order of the seats.
+/// It gives the pass back where no seat took it.
 pub(crate) fn deal<S: Store>(
     turnstile: &Turnstile<CountedStore<S>>,
-    pass: &mut Pass<CountedStore<S>>,
+    pass: Pass<CountedStore<S>>,
     seats: &mut [Seat<S>],
-)
-    requires pass { IsPassOf told_of entry_client turnstile.now pass.old }
-    requires unseen { (view pass.old).gain ≡ [] }
-    requires room { 2 ^ length seats.old ≤ (view pass.old).stock + 1 }
-    ensures pass { IsPassOf told_of entry_client turnstile.now pass.new }
-    ensures seen { SeenSame (view pass.old) (view pass.new) }
+) -> Option<Pass<CountedStore<S>>>
+    requires pass { IsPassOf told_of entry_client turnstile.now pass }
+    requires new { IsNew (view pass) }
+    requires first { (view pass).number ≡ 0 }
+    requires room { 2 ^ length seats.old ≤ (view pass).stock + 1 }
+    requires single { OnePin seats.old }
+    ensures back { NoPin seats.old → IsSome result }
+    ensures none { IfNone result (seats.new ≢ []) }
+    ensures pass { IfSome result (λ p. IsPassOf told_of entry_client turnstile.now p) }
+    ensures seen { IfSome result (λ p. SeenSame (view pass) (view p)) }
     ensures seated { AllByRecursion (IsSeated turnstile.now) seats.new }
-    ensures shares { (view pass.new).share + shares_of seats.new ≡ (view pass.old).share }
-    ensures numbers { NumberedFrom (view pass.old).low seats.new }
+    ensures shares { share_in result + shares_of seats.new ≡ (view pass).share }
+    ensures numbers { NumberedFrom (view pass).low seats.new }
     ensures length { length seats.new ≡ length seats.old }
     ensures places { (plan : Plan) (worker : ℕ) → PlacedFrom plan worker seats.old → PlacedFrom plan worker seats.new }
 {
     let Some((first, rest)) = seats.split_first_mut() else {
-        return;
+        return Some(pass);
     };
-    deal_one(turnstile, pass, first);
-    deal(turnstile, pass, rest);
+    if first.job.is_pin() {
+        first.pass = deal(turnstile, pass, rest);
+        return None;
+    }
+    let pass = deal_one(turnstile, pass, first);
+    deal(turnstile, pass, rest)
 }
 
 // Takes in the pass and the end of a seat.
@@ -216,4 +226,68 @@ pub(crate) fn gather<S: Store>(
     };
     take_in(turnstile, pass, plan, first, end);
     gather(turnstile, pass, plan, rest, more);
+}
+
+/// Takes in the passes and the ends of all seats, beside the pass that no seat took, if there is one.
+pub(crate) fn gather_all<S: Store>(
+    turnstile: &Turnstile<CountedStore<S>>,
+    kept: Option<Pass<CountedStore<S>>>,
+    plan: &Plan,
+    seats: &mut [Seat<S>],
+    ends: &mut [WorkerEnd],
+) -> Pass<CountedStore<S>>
+    requires kept { IfSome kept (λ p. IsPassOf told_of entry_client turnstile.now p
+        × KinKeeps (role_in plan.now) plan.now.shard S.history (view p)) }
+    requires none { IfNone kept (seats.old ≢ []) }
+    requires worked { AllByRecursion (HasWorked plan.now.appends plan.now.shard turnstile.now) seats.old }
+    requires suits { AllByRecursion (Suits plan.now) seats.old }
+    requires room { length ends.old ≡ length seats.old }
+    ensures pass { IsPassOf told_of entry_client turnstile.now result }
+    ensures keeps { KinKeeps (role_in plan.now) plan.now.shard S.history (view result) }
+    ensures shares { (view result).share ≡ share_in kept + shares_of seats.old }
+    ensures own { IfSome kept (λ p. Shows (view p) (view result)) }
+    ensures theirs { AllByRecursion (ShowsSeat (view result)) seats.old }
+    ensures prefix { AllByRecursion (IsPrefixOf (view result)) seats.old }
+    ensures ends { ends.new ≡ ends_of seats.old }
+{
+    match kept {
+        Some(pass) => {
+            let mut pass = pass;
+            gather(turnstile, &mut pass, plan, seats, ends);
+            pass
+        }
+        None => gather_from(turnstile, plan, seats, ends),
+    }
+}
+
+// Takes in the passes and the ends of all seats, into the pass of the first one.
+fn gather_from<S: Store>(
+    turnstile: &Turnstile<CountedStore<S>>,
+    plan: &Plan,
+    seats: &mut [Seat<S>],
+    ends: &mut [WorkerEnd],
+) -> Pass<CountedStore<S>>
+    requires some { seats.old ≢ [] }
+    requires worked { AllByRecursion (HasWorked plan.now.appends plan.now.shard turnstile.now) seats.old }
+    requires suits { AllByRecursion (Suits plan.now) seats.old }
+    requires room { length ends.old ≡ length seats.old }
+    ensures pass { IsPassOf told_of entry_client turnstile.now result }
+    ensures keeps { KinKeeps (role_in plan.now) plan.now.shard S.history (view result) }
+    ensures shares { (view result).share ≡ shares_of seats.old }
+    ensures theirs { AllByRecursion (ShowsSeat (view result)) seats.old }
+    ensures prefix { AllByRecursion (IsPrefixOf (view result)) seats.old }
+    ensures ends { ends.new ≡ ends_of seats.old }
+{
+    let Some((first, rest)) = seats.split_first_mut() else {
+        unreachable!()
+    };
+    let Some((end, more)) = ends.split_first_mut() else {
+        unreachable!()
+    };
+    let Some(mut pass) = first.pass.take() else {
+        unreachable!()
+    };
+    *end = mem::replace(&mut first.end, WorkerEnd::Finished);
+    gather(turnstile, &mut pass, plan, rest, more);
+    pass
 }

@@ -3,11 +3,13 @@ ghost use Rattle.std.specs.Prelude.{◌≡◌, ℕ, Option};
 ghost use Rattle.store_core.specs.declared.shards.ShardId.{ShardId};
 ghost use Rattle.store_core.specs.Histories.{History};
 ghost use Rattle.appends_core.specs.Feeds.{IsFeed};
-ghost use Rattle.crew_core.specs.Working.{Role, as_compactor, as_writer};
+ghost use Rattle.crew_core.specs.Working.{Role, as_collector, as_compactor, as_writer};
 ghost use Rattle.crew.specs.Turns.{ReadyAgain, Turned};
+ghost use Rattle.crew.specs.Collecting as collecting;
 ghost use Rattle.crew.specs.Merging as merging;
 ghost use Rattle.crew.specs.Writing.{IsReady};
 
+use crate::collecting::CollectorWorker;
 use crate::ends::WorkerTurn;
 use crate::merging::CompactorWorker;
 use crate::writing::WriterWorker;
@@ -55,6 +57,18 @@ impl<'a> Worker for CompactorWorker<'a> {
     ghost shard = { λ w. w.shard };
 
     ghost ready = { λ w client front. merging.IsReady client front w };
+
+    fn turn<P: Port>(&mut self, alloc: Global, port: &mut P) -> WorkerTurn {
+        self.poll_once(alloc, port)
+    }
+}
+
+impl<'a> Worker for CollectorWorker<'a> {
+    ghost role = { λ w. as_collector };
+
+    ghost shard = { λ w. w.shard };
+
+    ghost ready = { λ w client front. collecting.IsReady client front w };
 
     fn turn<P: Port>(&mut self, alloc: Global, port: &mut P) -> WorkerTurn {
         self.poll_once(alloc, port)

@@ -6,10 +6,11 @@ ghost use Rattle.shared_store.specs.Passes.{kept_of, told_of};
 ghost use Rattle.shared_store.specs.Trails.{entry_client};
 ghost use Rattle.appends_core.specs.Feeds.{IsFeed};
 ghost use Rattle.crew_core.specs.KeepingOn.{KeepsOn};
-ghost use Rattle.crew_core.specs.Working.{IsWorkersEntry, as_compactor, as_writer, role_of};
+ghost use Rattle.crew_core.specs.Working.{IsWorkersEntry, as_collector, as_compactor, as_writer, role_of};
 ghost use Rattle.crew.specs.Looping.{EndShown};
 ghost use Rattle.crew.specs.Posts.{SamePass, own_calls};
 
+use crate::collecting::CollectorWorker;
 use crate::ends::{WorkerEnd, WorkerTurn};
 use crate::gates::Gate;
 use crate::merging::CompactorWorker;
@@ -87,6 +88,8 @@ pub(crate) fn work_alone<S: Store, G: Gate, R: Wait>(
     match task.job {
         Job::Write => write_alone(rt, alloc, turnstile, pass, gate, task),
         Job::Merge => merge_alone(rt, alloc, turnstile, pass, gate, task),
+        Job::Collect => collect_alone(rt, alloc, turnstile, pass, gate, task),
+        Job::Pin => collect_alone(rt, alloc, turnstile, pass, gate, task),
     }
 }
 
@@ -134,6 +137,29 @@ fn merge_alone<S: Store, G: Gate, R: Wait>(
 {
     let mut port = WorkerPort::new(SharedPort::at(turnstile, pass), gate, task.worker);
     let mut worker = CompactorWorker::new(alloc, task.shard, task.moment, task.progress);
+    let end = work(rt, alloc, &mut worker, &mut port, task.stop);
+    (port.back(), end)
+}
+
+// A collector of the task works to its end.
+fn collect_alone<S: Store, G: Gate, R: Wait>(
+    rt: &R,
+    alloc: Global,
+    turnstile: &Turnstile<CountedStore<S>>,
+    pass: Pass<CountedStore<S>>,
+    gate: &G,
+    task: Task<'_>,
+) -> (Pass<CountedStore<S>>, WorkerEnd)
+    requires pass { IsPassOf told_of entry_client turnstile.now pass }
+    requires fresh { own_calls (view pass) ≡ 0 }
+    ensures pass { IsPassOf told_of entry_client turnstile.now result.0 }
+    ensures same { SamePass (view pass) (view result.0) }
+    ensures keeps { KeepsOn (IsWorkersEntry as_collector task.entry.shard) task.entry.shard
+        (view pass).number (front_of S.history (view pass)) (front_of S.history (view result.0)) }
+    ensures end { EndShown S.history as_collector task.entry.shard task.entry.stop (view result.0) result.1 }
+{
+    let mut port = WorkerPort::new(SharedPort::at(turnstile, pass), gate, task.worker);
+    let mut worker = CollectorWorker::new(task.shard, task.progress);
     let end = work(rt, alloc, &mut worker, &mut port, task.stop);
     (port.back(), end)
 }

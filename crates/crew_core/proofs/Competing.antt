@@ -358,6 +358,8 @@ module _ (appends : List FeedAppend) (follow : FollowOn (Some 0) appends) (shard
     steps s jobs.Merge (inl (now, lease, j)) c = joins_one Keeper now lease s j c
     steps s jobs.Merge (inr (inl leave)) c = leaves_one Keeper refl s leave c
     steps s jobs.Merge (inr (inr m)) c = merges_one s m c
+    steps s jobs.Collect bad c = absurd bad
+    steps s jobs.Pin bad c = absurd bad
 
     pub come_on : (job : Job) → IsWorkersEntry (role_of job appends) shard start es e → Come start es → Come start (e ∷ es)
     come_on job p c = elim (bool_cases (commits_on shard (replay_back start es) e.call e.outcome)) [

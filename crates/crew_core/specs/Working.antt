@@ -1,5 +1,5 @@
 -- What a worker of a crew calls. A client's own entries go newest first. docs/DEFINITIONS.md, "Crews".
-use Rattle.std.specs.Prelude.{⊤, ◌≡◌, ◌⊎◌, ℕ, ◌+◌, Some, List}
+use Rattle.std.specs.Prelude.{⊤, ◌≡◌, ◌⊎◌, ℕ, ◌+◌, Bool, true, false, Some, None, List}
 use Rattle.update_core.specs.declared.appends.FeedAppend.{FeedAppend}
 use Rattle.update_core.specs.Updates.{cons, weight_of}
 use Rattle.spine_core.specs.declared.batches.Batch.{Batch}
@@ -53,26 +53,43 @@ pub record IsOwnMerge (shard : ShardId) (own : List Answered) (x : Transition) :
   pub step_is : x ≡ Merge member token left right merged
   pub joined : JoinedAs Keeper own shard member
 
+-- whether a worker works as the client that the pin reads as
+abbrev pub is_pin : Job → Bool
+is_pin jobs.Pin = true
+is_pin _ = false
+
 -- what a worker is for, a writer with its appends
 pub data Role : Type 0 where
   as_writer : List FeedAppend → Role
   as_compactor : Role
+  as_collector : Role
 
 abbrev pub role_of : Job → List FeedAppend → Role
 role_of jobs.Write appends = as_writer appends
 role_of jobs.Merge appends = as_compactor
+role_of jobs.Collect appends = as_collector
+role_of jobs.Pin appends = as_collector
 
 -- What a worker may commit. A writer of a crew: the join of a writer, the leave of one that it joined, and its appends. A compactor: the
--- join of a keeper, the leave of one that it joined, and merges.
+-- join of a keeper, the leave of one that it joined, and merges. A collector: nothing.
 abbrev pub IsWorkersStep : Role → ShardId → List Answered → Transition → Type 0
 IsWorkersStep (as_writer appends) shard own x = (x ≡ Join Writer 0 0) ⊎ (IsOwnLeave Writer shard own x ⊎ IsOneOf appends own x)
 IsWorkersStep as_compactor shard own x = IsKeepersJoin x ⊎ (IsOwnLeave Keeper shard own x ⊎ IsOwnMerge shard own x)
+IsWorkersStep as_collector shard own x = ⊥
 
--- a Cas past a version is of the crew's shard, and its bytes carry such a transition
+-- whether a worker may make the first version and store parts: a collector may not
+abbrev pub MayAdd : Role → Type 0
+MayAdd as_collector = ⊥
+MayAdd _ = ⊤
+
+-- A Cas past a version is of the crew's shard, and its bytes carry such a transition; the first version and parts come from those that may
+-- add them.
 abbrev pub CarriesWorkers : Role → ShardId → List Answered → Call → Type 0
 CarriesWorkers role shard own (calls.Cas at_shard (Some n) bytes) =
     (at_shard ≡ shard) ×
     ((to : ShardState) × (x : Transition) × (version_in shard (n + 1) bytes ≡ Some (to, x)) × IsWorkersStep role shard own x)
+CarriesWorkers role shard own (calls.Cas at_shard None bytes) = MayAdd role
+CarriesWorkers role shard own (calls.Set key bytes) = MayAdd role
 CarriesWorkers role shard own _ = ⊤
 
 -- an entry of a worker, at its place: a call that its client may make, and a Cas carries what a worker may commit

@@ -88,7 +88,7 @@ fn try_plan<R: Threads + Wait + Sync, G: Gate + Sync>(
     if !is_feed(&plan.appends) {
         return None;
     }
-    if plan.writers > 32 || plan.compactors > 32 {
+    if plan.writers > 20 || plan.compactors > 20 || plan.collectors > 20 {
         return None;
     }
     let store = MemStore::new(alloc, FaultList::new(alloc));
@@ -104,6 +104,7 @@ fn try_crew<R: Threads + Wait + Sync>(
     alloc: Global,
     writers: u32,
     compactors: u32,
+    collectors: u32,
     count: u64,
     stop: Option<Stop>,
 ) -> Result<Option<Left>, Fail> {
@@ -116,6 +117,7 @@ fn try_crew<R: Threads + Wait + Sync>(
         appends: appends_of(alloc, count)?,
         writers,
         compactors,
+        collectors,
         stops,
     };
     Ok(try_plan(rt, alloc, &plan, &OpenGate))
@@ -130,13 +132,13 @@ fn one_writer_appends_all(rt: HostRuntime) -> Result<(), Fail> {
         cas: 23,
         calls: 44,
     };
-    assert_eq!(rt; try_crew(&rt, rt.alloc(), 1, 0, 20, None)?, Some(left));
+    assert_eq!(rt; try_crew(&rt, rt.alloc(), 1, 0, 0, 20, None)?, Some(left));
     Ok(())
 }
 
 #[test]
 fn four_writers_finish(rt: HostRuntime) -> Result<(), Fail> {
-    let Some(left) = try_crew(&rt, rt.alloc(), 4, 0, 20, None)? else {
+    let Some(left) = try_crew(&rt, rt.alloc(), 4, 0, 0, 20, None)? else {
         panic!(rt; "no crew")
     };
     assert_eq!(rt; (left.finished, left.stopped), (4, 0));
@@ -146,10 +148,34 @@ fn four_writers_finish(rt: HostRuntime) -> Result<(), Fail> {
 // Compactors merge while writers append, and all of them end.
 #[test]
 fn writers_and_compactors_finish(rt: HostRuntime) -> Result<(), Fail> {
-    let Some(left) = try_crew(&rt, rt.alloc(), 2, 2, 20, None)? else {
+    let Some(left) = try_crew(&rt, rt.alloc(), 2, 2, 0, 20, None)? else {
         panic!(rt; "no crew")
     };
     assert_eq!(rt; (left.finished, left.stopped), (4, 0));
+    Ok(())
+}
+
+// Collectors remove meanwhile what merges leave behind.
+#[test]
+fn all_kinds_finish(rt: HostRuntime) -> Result<(), Fail> {
+    let Some(left) = try_crew(&rt, rt.alloc(), 2, 1, 2, 20, None)? else {
+        panic!(rt; "no crew")
+    };
+    assert_eq!(rt; (left.finished, left.stopped), (5, 0));
+    Ok(())
+}
+
+// The second of two collectors is stopped after one call.
+#[test]
+fn a_collector_stops(rt: HostRuntime) -> Result<(), Fail> {
+    let stop = Some(Stop {
+        worker: 2,
+        calls: 1,
+    });
+    let Some(left) = try_crew(&rt, rt.alloc(), 1, 0, 2, 20, stop)? else {
+        panic!(rt; "no crew")
+    };
+    assert_eq!(rt; (left.finished, left.stopped), (2, 1));
     Ok(())
 }
 
@@ -160,7 +186,7 @@ fn a_compactor_stops(rt: HostRuntime) -> Result<(), Fail> {
         worker: 1,
         calls: 3,
     });
-    let Some(left) = try_crew(&rt, rt.alloc(), 1, 1, 20, stop)? else {
+    let Some(left) = try_crew(&rt, rt.alloc(), 1, 1, 0, 20, stop)? else {
         panic!(rt; "no crew")
     };
     assert_eq!(rt; (left.finished, left.stopped), (1, 1));
@@ -172,7 +198,7 @@ fn a_compactor_stops(rt: HostRuntime) -> Result<(), Fail> {
 fn a_writer_stops(rt: HostRuntime) -> Result<(), Fail> {
     for calls in [0u64, 5] {
         let stop = Some(Stop { worker: 0, calls });
-        let Some(left) = try_crew(&rt, rt.alloc(), 1, 0, 20, stop)? else {
+        let Some(left) = try_crew(&rt, rt.alloc(), 1, 0, 0, 20, stop)? else {
             panic!(rt; "no crew")
         };
         assert_eq!(rt; (left.finished, left.stopped), (0, 1));
@@ -217,6 +243,7 @@ fn either_of_two_writers_may_wait(rt: HostRuntime) -> Result<(), Fail> {
             appends: appends_of(rt.alloc(), 1)?,
             writers: 2,
             compactors: 0,
+            collectors: 0,
             stops: StopList::new(rt.alloc()),
         };
         let gate = TurnGate {

@@ -1,7 +1,8 @@
 use Rattle.turnstile.specs.Passes.{view}
-use Rattle.crew.proofs.Rooms.{some_room}
+use Rattle.crew.proofs.Rooms.{more_room, some_room}
+use Rattle.crew.proofs.Seating.{new_still}
 use Rattle.crew.proofs.seats.+deal.Goals as goal
 
-pub deal_one-requires-clause-some : goal.deal_one-requires-clause-some
-deal_one-requires-clause-some g t c = some_room c.args.seats.now c.in-Some.rest.now c.in-Some.first.now
-    (view c.args.pass.now).stock c.in-Some.ensures.cases.0 c.requires.room
+pub deal_one-pass-requires-clause-some : goal.deal_one-pass-requires-clause-some
+deal_one-pass-requires-clause-some g t c = some_room c.args.seats.now c.in-Some.rest.now c.in-Some.first.now
+    (view c.args.pass).stock c.in-Some.ensures.cases.0 c.requires.room
