@@ -9,7 +9,7 @@ use Rattle.reclock_client.specs.declared.steps.Step.{Step}
 use Rattle.reclock_client.specs.Beginning.{begun, fault, fault_by}
 use Rattle.reclock_client.specs.Operators.{IdleBy, IsLight, IsSound, OthersRest, part_of}
 
-others : (o : Operator) (p : Part) → IdleBy o None → OthersRest o p
+pub others : (o : Operator) (p : Part) → IdleBy o None → OthersRest o p
 others o parts.RemapWriter (w, r, d, l) = (r, d, l)
 others o parts.Reader (w, r, d, l) = (w, d, l)
 others o parts.DataWriter (w, r, d, l) = (w, r, l)
@@ -22,14 +22,7 @@ free o (Some errand) joined e idle = absurd (let bad : Some faults.Open ≡ None
 pub begun_sound : (o : Operator) (errand : Errand) (step : Step) → IsSound o → fault o ≡ None → IsLight (Some errand) →
     IsSound (begun o errand step)
 begun_sound o errand step s e light = record {
-  remap_writer = s.remap_writer;
-  reader = s.reader;
-  data_writer = s.data_writer;
-  looker = s.looker;
-  writes_remap = s.writes_remap;
-  reads_remap = s.reads_remap;
-  writes_data = s.writes_data;
-  apart = s.apart;
+  machines = s.machines;
   course = record { raise = s.course.raise; light = light };
   rest = others (begun o errand step) (part_of step) (free o o.course.errand o.course.joined e s.idle);
   idle = tt;
