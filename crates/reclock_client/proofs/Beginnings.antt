@@ -9,14 +9,16 @@ use Rattle.reclock_client.specs.declared.steps.Step.{Step}
 use Rattle.reclock_client.specs.Beginning.{begun, fault, fault_by}
 use Rattle.reclock_client.specs.Operators.{IdleBy, IsLight, IsSound, OthersRest, part_of}
 
-pub others : (o : Operator) (p : Part) → IdleBy o None → OthersRest o p
+pub others : (o : Operator) (p : Part) → IdleBy o None true → OthersRest o p
 others o parts.RemapWriter (w, r, d, l) = (r, d, l)
 others o parts.Reader (w, r, d, l) = (w, d, l)
 others o parts.DataWriter (w, r, d, l) = (w, r, l)
 others o parts.Looker (w, r, d, l) = (w, r, d)
 
-free : (o : Operator) (errand : Option Errand) (joined : Bool) → fault_by errand joined ≡ None → IdleBy o errand → IdleBy o None
-free o None joined e idle = idle
+free : (o : Operator) (errand : Option Errand) (joined : Bool) → fault_by errand joined ≡ None → IdleBy o errand joined →
+    IdleBy o None true
+free o None true e idle = idle
+free o None false e idle = absurd (let bad : Some faults.Gone ≡ None = e in cc)
 free o (Some errand) joined e idle = absurd (let bad : Some faults.Open ≡ None = e in cc)
 
 pub begun_sound : (o : Operator) (errand : Errand) (step : Step) → IsSound o → fault o ≡ None → IsLight (Some errand) →

@@ -1,5 +1,5 @@
 -- Rows of which none is foreign raise partitions of the bindings, one after the other.
-use Rattle.std.proofs.Common.{◌≡◌, ℕ, ◌≤◌, ◌<◌, Bool, true, false, cond, Option, Some, None, List, [], ◌∷◌, ◌++◌, refl, sym, subst, arith}
+use Rattle.std.proofs.Common.{◌≡◌, ℕ, ◌≤◌, ◌<◌, Bool, true, false, cond, Option, Some, None, List, [], ◌∷◌, ◌++◌, refl, sym, subst, ◌∙◌, arith}
 use Rattle.std.proofs.lemmas.Bool.Decides.{nat_tests}
 use Rattle.std.specs.Prelude.{nat_le, nat_lt}
 use Rattle.update_core.specs.declared.rows.Row.{Row}
@@ -65,3 +65,20 @@ at_once t (r ∷ rows) = pick (nat_le t t) (grind (arith, nat_tests)) (at_once t
 -- the rows of a content
 pub content_raises : (since : ℕ) (rows : List Row) → foreign_time unset (rows_at since rows) ≡ None → AllRaise [] (rows_at since rows)
 content_raises since rows none = all_raise (rows_at since rows) since [] tt (at_once since rows) none
+
+-- the same, as the code tests it
+pub content_rises : (since : ℕ) (rows shown : List Row) (f : List ℕ) (r : Option ℕ) (bs : List (ℕ × List ℕ)) →
+    r ≡ foreign_time f (rows_at since shown) → f ≡ unset → shown ≡ rows → r ≡ None → bs ≡ [] → AllRaise bs (rows_at since rows)
+content_rises since rows shown f r bs told unset_is same none empty =
+    let one = subst (λ (x : List ℕ). r ≡ foreign_time x (rows_at since shown)) unset_is told in
+    let two = subst (λ (xs : List Row). r ≡ foreign_time unset (rows_at since xs)) same one in
+    subst (λ (b : List (ℕ × List ℕ)). AllRaise b (rows_at since rows)) (sym empty) (content_raises since rows (sym two ∙ none))
+
+pub step_rises : (t : ℕ) (bs : List (ℕ × List ℕ)) (rows shown again : List Update) (f : List ℕ) (q : Bool) (r : Option ℕ) →
+    UpToTime t bs → q ≡ in_time t shown → shown ≡ rows → q ≡ true → r ≡ foreign_time f again → f ≡ reached bs → again ≡ rows →
+    r ≡ None → AllRaise bs rows
+step_rises t bs rows shown again f q r up told same order foreign reached_is same_again none =
+    let in_order = subst (λ (us : List Update). q ≡ in_time t us) same told in
+    let one = subst (λ (x : List ℕ). r ≡ foreign_time x again) reached_is foreign in
+    let two = subst (λ (us : List Update). r ≡ foreign_time (reached bs) us) same_again one in
+    all_raise rows t bs up (sym in_order ∙ order) (sym two ∙ none)

@@ -24,8 +24,10 @@ use Rattle.reclock_client.specs.declared.courses.Course.{Course}
 use Rattle.reclock_client.specs.declared.errands.Errand.{Errand}
 use Rattle.reclock_client.specs.declared.looks.Look.{Look}
 use Rattle.reclock_client.specs.declared.operators.Operator.{Operator}
+use Rattle.reclock_client.specs.declared.steps.Part.{Part}
 use Rattle.reclock_client.specs.declared.steps.Part.TheVariants as parts
 use Rattle.reclock_client.specs.declared.steps.Step.{Step}
+use Rattle.reclock_client.specs.Commands.{strange}
 use Rattle.reclock_client.specs.Looking as looks
 use Rattle.reclock_client.specs.Looking.{looking}
 use Rattle.reclock_client.specs.Operators.{AreSound, Follows, IdleBy, IsChange, IsCourse, IsSound, OthersRest, Rests}
@@ -40,22 +42,39 @@ rests_leave r moment lease X (inl idle) = subst (λ (a : Option Asked). IfSome a
 rests_leave r moment lease X (inr is) = subst (λ (a : Option Asked). IfSome a (λ asked. IsChange asked → X))
     (sym (ap (λ (q : Reader). q.asked) is)) (λ h. absurd h)
 
-busy_idle : (o : Operator) (e : Option Errand) → IsSome e → IdleBy o e
-busy_idle o None some = absurd (let bad : false ≡ true = some in cc)
-busy_idle o (Some errand) some = tt
+busy_idle : (o : Operator) (e : Option Errand) (joined : Bool) → IsSome e → IdleBy o e joined
+busy_idle o None joined some = absurd (let bad : false ≡ true = some in cc)
+busy_idle o (Some errand) joined some = tt
 
-idle_of : (o : Operator) (e : Option Errand) → IdleBy o None → IdleBy o e
-idle_of o None rest = rest
-idle_of o (Some errand) rest = tt
+idle_of : (o : Operator) (e : Option Errand) (joined : Bool) → IdleBy o None true → IdleBy o e joined
+idle_of o None true rest = rest
+idle_of o None false rest = tt
+idle_of o (Some errand) joined rest = tt
+
+others_still : (o : Operator) (c : Course) (p : Part) → OthersRest o p → OthersRest (record o { course = c }) p
+others_still o c parts.RemapWriter rest = rest
+others_still o c parts.Reader rest = rest
+others_still o c parts.DataWriter rest = rest
+others_still o c parts.Looker rest = rest
+
+-- a command that can't go on leaves an operator of which nothing can be asked
+pub dead : (o : Operator) (c : Course) → IsSound o → c ≡ (strange o.course).0 → IsSound (record o { course = c })
+dead o c s e = subst (λ (x : Course). let y : Operator = record o { course = x } in IsSound y) (sym e) (record {
+  machines = s.machines;
+  course = record { raise = s.course.raise; light = tt };
+  rest = others_still o (strange o.course).0 (part_of o.course.step) s.rest;
+  idle = tt;
+  leaves = s.leaves;
+})
 
 -- all machines rest
 resting : (o : Operator) → AreSound o.remap o.data_shard o.remap_writer o.reader o.data_writer o.looker → IsCourse o.course →
-    IdleBy o None → IsSound o
+    IdleBy o None true → IsSound o
 resting o m c rest = record {
   machines = m;
   course = c;
   rest = others o (part_of o.course.step) rest;
-  idle = idle_of o o.course.errand rest;
+  idle = idle_of o o.course.errand o.course.joined rest;
   leaves = rests_leave o.reader o.moment o.lease (o.remap_writer.member ≡ None) rest.1;
 }
 
@@ -82,7 +101,7 @@ module _ (o : Operator) (s : IsSound o) (busy : IsSome o.course.errand) where
         };
         course = record { raise = s.course.raise; light = s.course.light };
         rest = subst (OthersRest new) (sym there) rest;
-        idle = busy_idle new o.course.errand busy;
+        idle = busy_idle new o.course.errand o.course.joined busy;
         leaves = rests_leave o.reader o.moment o.lease (w.member ≡ None) rest.0;
       }
 
@@ -107,7 +126,7 @@ module _ (o : Operator) (s : IsSound o) (busy : IsSome o.course.errand) where
         };
         course = record { raise = s.course.raise; light = s.course.light };
         rest = subst (OthersRest new) (sym there) rest;
-        idle = busy_idle new o.course.errand busy;
+        idle = busy_idle new o.course.errand o.course.joined busy;
         leaves = s.leaves;
       }
 
@@ -134,7 +153,7 @@ module _ (o : Operator) (s : IsSound o) (busy : IsSome o.course.errand) where
         };
         course = s.course;
         rest = subst (OthersRest new) (sym turn) now;
-        idle = busy_idle new o.course.errand busy;
+        idle = busy_idle new o.course.errand o.course.joined busy;
         leaves = leaves;
       }
 
@@ -158,7 +177,7 @@ module _ (o : Operator) (s : IsSound o) (busy : IsSome o.course.errand) where
         };
         course = s.course;
         rest = subst (OthersRest new) (sym turn) rest;
-        idle = busy_idle new o.course.errand busy;
+        idle = busy_idle new o.course.errand o.course.joined busy;
         leaves = s.leaves;
       }
 

@@ -103,10 +103,11 @@ OthersRest o parts.Reader = Rests o.remap_writer × Rests o.data_writer × (o.lo
 OthersRest o parts.DataWriter = Rests o.remap_writer × ReaderRests o × (o.looker.asked ≡ None)
 OthersRest o parts.Looker = Rests o.remap_writer × ReaderRests o × Rests o.data_writer
 
--- where no command is open, all of them rest
-abbrev pub IdleBy : Operator → Option Errand → Type 0
-IdleBy o None = Rests o.remap_writer × ReaderRests o × Rests o.data_writer × (o.looker.asked ≡ None)
-IdleBy o (Some errand) = ⊤
+-- where no command is open and one may begin, all of them rest
+abbrev pub IdleBy : Operator → Option Errand → Bool → Type 0
+IdleBy o None true = Rests o.remap_writer × ReaderRests o × Rests o.data_writer × (o.looker.asked ≡ None)
+IdleBy o None false = ⊤
+IdleBy o (Some errand) joined = ⊤
 
 -- a command of a reader that changes its member
 abbrev pub IsChange : Asked → Type 0
@@ -145,7 +146,7 @@ pub record IsSound (o : Operator) : Type 0 where
   pub machines : AreSound o.remap o.data_shard o.remap_writer o.reader o.data_writer o.looker
   pub course : IsCourse o.course
   pub rest : OthersRest o (part_of o.course.step)
-  pub idle : IdleBy o o.course.errand
+  pub idle : IdleBy o o.course.errand o.course.joined
   -- while the reader leaves, the remap shard's writer has no member
   pub leaves : IfSome o.reader.asked (λ asked. IsChange asked → o.remap_writer.member ≡ None)
 

@@ -2,8 +2,6 @@
 ghost use Rattle.std.specs.Prelude.{◌≡◌, ◌<◌, ◌≤◌, Ok, IfOk, IsSome, OnErr};
 ghost use Rattle.causes.specs.Causes.{Rose};
 ghost use Rattle.load_core.specs.declared.polls.Poll.TheVariants as polls;
-ghost use Rattle.read_client.specs.Reading as readers;
-ghost use Rattle.write_client.specs.Writing as writers;
 ghost use Rattle.reclock_client.specs.Operators.{Follows, IsOpen, IsSound};
 ghost use Rattle.reclock_client.specs.Parts.{part_of};
 ghost use Rattle.reclock_client.specs.Polling as polling;
@@ -34,14 +32,16 @@ impl Operator {
         alloc: Global,
         port: &mut P,
     ) -> Result<Poll<ClockAnswer>, AllocError>
-        requires open { writers.IsOpen self.old.remap_writer }
+        requires open { IsOpen self.old (part_of self.old.course.step) }
         requires turn { part_of self.old.course.step ≡ Part.RemapWriter }
         requires taken { self.old.course.intake ≡ Intake.Nothing }
         requires sound { IsSound self.old }
         requires busy { IsSome self.old.course.errand }
         requires follows { Follows (P.client port.old) (P.front port.old) self.old }
-        ensures polled { IfOk result (polling.PolledBy Part.RemapWriter (P.client port.old) (P.front port.old) (P.front port.new) self.old self.new) }
-        ensures memory { OnErr result (polling.UnpolledBy Part.RemapWriter (P.client port.old) (P.front port.old) (P.front port.new) self.old self.new) }
+        ensures polled { IfOk result (polling.PolledBy (part_of self.old.course.step) (P.client port.old) (P.front port.old) (P.front port.new)
+            self.old self.new) }
+        ensures memory { OnErr result (polling.UnpolledBy (part_of self.old.course.step) (P.client port.old) (P.front port.old) (P.front port.new)
+            self.old self.new) }
         ensures sound { IsSound self.new }
         ensures follows { Follows (P.client port.old) (P.front port.new) self.new }
         ensures busy { result ≡ Ok polls.Busy → P.misses port.old < P.misses port.new }
@@ -62,14 +62,16 @@ impl Operator {
         alloc: Global,
         port: &mut P,
     ) -> Result<Poll<ClockAnswer>, AllocError>
-        requires open { readers.IsOpen self.old.reader }
+        requires open { IsOpen self.old (part_of self.old.course.step) }
         requires turn { part_of self.old.course.step ≡ Part.Reader }
         requires taken { self.old.course.intake ≡ Intake.Nothing }
         requires sound { IsSound self.old }
         requires busy { IsSome self.old.course.errand }
         requires follows { Follows (P.client port.old) (P.front port.old) self.old }
-        ensures polled { IfOk result (polling.PolledBy Part.Reader (P.client port.old) (P.front port.old) (P.front port.new) self.old self.new) }
-        ensures memory { OnErr result (polling.UnpolledBy Part.Reader (P.client port.old) (P.front port.old) (P.front port.new) self.old self.new) }
+        ensures polled { IfOk result (polling.PolledBy (part_of self.old.course.step) (P.client port.old) (P.front port.old) (P.front port.new)
+            self.old self.new) }
+        ensures memory { OnErr result (polling.UnpolledBy (part_of self.old.course.step) (P.client port.old) (P.front port.old) (P.front port.new)
+            self.old self.new) }
         ensures sound { IsSound self.new }
         ensures follows { Follows (P.client port.old) (P.front port.new) self.new }
         ensures busy { result ≡ Ok polls.Busy → P.misses port.old < P.misses port.new }
@@ -90,14 +92,16 @@ impl Operator {
         alloc: Global,
         port: &mut P,
     ) -> Result<Poll<ClockAnswer>, AllocError>
-        requires open { writers.IsOpen self.old.data_writer }
+        requires open { IsOpen self.old (part_of self.old.course.step) }
         requires turn { part_of self.old.course.step ≡ Part.DataWriter }
         requires taken { self.old.course.intake ≡ Intake.Nothing }
         requires sound { IsSound self.old }
         requires busy { IsSome self.old.course.errand }
         requires follows { Follows (P.client port.old) (P.front port.old) self.old }
-        ensures polled { IfOk result (polling.PolledBy Part.DataWriter (P.client port.old) (P.front port.old) (P.front port.new) self.old self.new) }
-        ensures memory { OnErr result (polling.UnpolledBy Part.DataWriter (P.client port.old) (P.front port.old) (P.front port.new) self.old self.new) }
+        ensures polled { IfOk result (polling.PolledBy (part_of self.old.course.step) (P.client port.old) (P.front port.old) (P.front port.new)
+            self.old self.new) }
+        ensures memory { OnErr result (polling.UnpolledBy (part_of self.old.course.step) (P.client port.old) (P.front port.old) (P.front port.new)
+            self.old self.new) }
         ensures sound { IsSound self.new }
         ensures follows { Follows (P.client port.old) (P.front port.new) self.new }
         ensures busy { result ≡ Ok polls.Busy → P.misses port.old < P.misses port.new }
@@ -118,14 +122,16 @@ impl Operator {
         alloc: Global,
         port: &mut P,
     ) -> Result<Poll<ClockAnswer>, AllocError>
-        requires open { IsSome self.old.looker.asked }
+        requires open { IsOpen self.old (part_of self.old.course.step) }
         requires turn { part_of self.old.course.step ≡ Part.Looker }
         requires taken { self.old.course.intake ≡ Intake.Nothing }
         requires sound { IsSound self.old }
         requires busy { IsSome self.old.course.errand }
         requires follows { Follows (P.client port.old) (P.front port.old) self.old }
-        ensures polled { IfOk result (polling.PolledBy Part.Looker (P.client port.old) (P.front port.old) (P.front port.new) self.old self.new) }
-        ensures memory { OnErr result (polling.UnpolledBy Part.Looker (P.client port.old) (P.front port.old) (P.front port.new) self.old self.new) }
+        ensures polled { IfOk result (polling.PolledBy (part_of self.old.course.step) (P.client port.old) (P.front port.old) (P.front port.new)
+            self.old self.new) }
+        ensures memory { OnErr result (polling.UnpolledBy (part_of self.old.course.step) (P.client port.old) (P.front port.old) (P.front port.new)
+            self.old self.new) }
         ensures sound { IsSound self.new }
         ensures follows { Follows (P.client port.old) (P.front port.new) self.new }
         ensures busy { result ≡ Ok polls.Busy → P.misses port.old < P.misses port.new }

@@ -185,6 +185,7 @@ impl Operator {
         ensures starts { IfOk result (polling.Starts (part_of self.old.course.step) self.old self.new) }
         ensures memory { OnErr result (self.new ≡ self.old) }
         ensures open { result ≡ Ok true → IsOpen self.new (part_of self.new.course.step) }
+        ensures course { self.new.course ≡ record self.old.course { step = self.new.course.step } }
         ensures sound { IsSound self.new }
         ensures follows { (client : ℕ) (front : Option History) → Follows client front self.old → Follows client front self.new }
     {

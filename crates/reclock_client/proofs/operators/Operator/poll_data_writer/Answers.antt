@@ -5,7 +5,7 @@ use Rattle.std.specs.Prelude.{Ok}
 use Rattle.history_core.specs.declared.write_answers.WriteAnswer.{WriteAnswer}
 use Rattle.load_core.specs.declared.polls.Poll.TheVariants as polls
 use Rattle.reclock_client.specs.Commands.{after_data_writer}
-use Rattle.reclock_client.proofs.polling.Operator.poll_data_writer.Goals as goal
+use Rattle.reclock_client.proofs.operators.Operator.poll_data_writer.Goals as goal
 
 pub returns-in_err-poll-clause-memory : goal.returns-in_err-poll-clause-memory
 returns-in_err-poll-clause-memory g c = on_err _ c.from_residual.result _ (data_left (g.P.Port.client c.args.port.now) (g.P.Port.front c.args.port.now) (g.P.Port.front c.poll.new.port) c.args.self.now
@@ -24,26 +24,26 @@ returns-in_err-poll-clause-follows g c = (data_left (g.P.Port.client c.args.port
 
 pub returns-clause-polled : goal.returns-clause-polled
 returns-clause-polled g c = (data_came (g.P.Port.client c.args.port.now) (g.P.Port.front c.args.port.now) (g.P.Port.front c.poll.new.port) c.args.self.now
-    c.requires.sound c.requires.busy c.requires.taken c.requires.follows c.poll.new.self c.in_ok-poll.poll c.after_data_poll.new.self c.counted.result
+    c.requires.sound c.requires.busy c.requires.taken c.requires.follows c.poll.new.self c.in_ok-poll.poll c.after_data_poll.new.self c.counted-self.result
     c.after_data_poll.result c.requires.turn c.requires.open
     (record { polled = c.in_ok-poll.ensures.polled; legal = c.in_ok-poll.ensures.legal; cost = c.in_ok-poll.ensures.cost })
-    c.in_ok-poll.ensures.follows c.in_ok-poll.ensures.sound (c.counted.ensures ∙ ap (λ (k : ℕ). counted c.in_ok-poll.poll c.args.self.now.calls k) c.calls.ensures)
+    c.in_ok-poll.ensures.follows c.in_ok-poll.ensures.sound (c.counted-self.ensures ∙ ap (λ (k : ℕ). counted c.in_ok-poll.poll c.args.self.now.calls k) c.calls.ensures)
     c.after_data_poll.ensures.next c.after_data_poll.ensures.course).polled
 
 pub returns-clause-sound : goal.returns-clause-sound
 returns-clause-sound g c = (data_came (g.P.Port.client c.args.port.now) (g.P.Port.front c.args.port.now) (g.P.Port.front c.poll.new.port) c.args.self.now
-    c.requires.sound c.requires.busy c.requires.taken c.requires.follows c.poll.new.self c.in_ok-poll.poll c.after_data_poll.new.self c.counted.result
+    c.requires.sound c.requires.busy c.requires.taken c.requires.follows c.poll.new.self c.in_ok-poll.poll c.after_data_poll.new.self c.counted-self.result
     c.after_data_poll.result c.requires.turn c.requires.open
     (record { polled = c.in_ok-poll.ensures.polled; legal = c.in_ok-poll.ensures.legal; cost = c.in_ok-poll.ensures.cost })
-    c.in_ok-poll.ensures.follows c.in_ok-poll.ensures.sound (c.counted.ensures ∙ ap (λ (k : ℕ). counted c.in_ok-poll.poll c.args.self.now.calls k) c.calls.ensures)
+    c.in_ok-poll.ensures.follows c.in_ok-poll.ensures.sound (c.counted-self.ensures ∙ ap (λ (k : ℕ). counted c.in_ok-poll.poll c.args.self.now.calls k) c.calls.ensures)
     c.after_data_poll.ensures.next c.after_data_poll.ensures.course).sound
 
 pub returns-clause-follows : goal.returns-clause-follows
 returns-clause-follows g c = (data_came (g.P.Port.client c.args.port.now) (g.P.Port.front c.args.port.now) (g.P.Port.front c.poll.new.port) c.args.self.now
-    c.requires.sound c.requires.busy c.requires.taken c.requires.follows c.poll.new.self c.in_ok-poll.poll c.after_data_poll.new.self c.counted.result
+    c.requires.sound c.requires.busy c.requires.taken c.requires.follows c.poll.new.self c.in_ok-poll.poll c.after_data_poll.new.self c.counted-self.result
     c.after_data_poll.result c.requires.turn c.requires.open
     (record { polled = c.in_ok-poll.ensures.polled; legal = c.in_ok-poll.ensures.legal; cost = c.in_ok-poll.ensures.cost })
-    c.in_ok-poll.ensures.follows c.in_ok-poll.ensures.sound (c.counted.ensures ∙ ap (λ (k : ℕ). counted c.in_ok-poll.poll c.args.self.now.calls k) c.calls.ensures)
+    c.in_ok-poll.ensures.follows c.in_ok-poll.ensures.sound (c.counted-self.ensures ∙ ap (λ (k : ℕ). counted c.in_ok-poll.poll c.args.self.now.calls k) c.calls.ensures)
     c.after_data_poll.ensures.next c.after_data_poll.ensures.course).follows
 
 pub returns-clause-busy : goal.returns-clause-busy
