@@ -1,5 +1,5 @@
 -- A command that begins leaves an operator sound.
-use Rattle.std.proofs.Common.{◌≡◌, Bool, true, false, Option, Some, None, inl, inr}
+use Rattle.std.proofs.Common.{◌≡◌, Bool, true, false, Option, Some, None}
 use Rattle.load_core.specs.declared.begin_faults.BeginFault.TheVariants as faults
 use Rattle.reclock_client.specs.declared.errands.Errand.{Errand}
 use Rattle.reclock_client.specs.declared.operators.Operator.{Operator}

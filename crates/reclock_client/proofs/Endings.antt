@@ -1,10 +1,8 @@
 -- After a poll of an inner machine its command goes on, and the course is as it was; or the machine has no command.
-use Rattle.std.proofs.Common.{◌≡◌, ℕ, Option, Some, None, refl, ap, subst, ◌∙◌, inl, inr}
+use Rattle.std.proofs.Common.{◌≡◌, ℕ, Option, Some, None, refl, ap, ◌∙◌, inl, inr}
 use Rattle.std.specs.Prelude.{⊤, ◌⊎◌, IsSomeAnd}
 use Rattle.store_core.specs.declared.replies.Reply.{Reply}
-use Rattle.store_core.specs.declared.shards.ShardId.{ShardId}
 use Rattle.store_core.specs.Histories.{History}
-use Rattle.history_core.specs.declared.asked.Asked.{Asked}
 use Rattle.history_core.specs.declared.read_answers.ReadAnswer.{ReadAnswer}
 use Rattle.history_core.specs.declared.write_answers.WriteAnswer.{WriteAnswer}
 use Rattle.load_core.specs.declared.polls.Poll.{Poll}
@@ -21,7 +19,6 @@ use Rattle.try_machine.specs.Tryers as tryers
 use Rattle.write_client.specs.declared.writers.Writer.{Writer}
 use Rattle.write_client.specs.Machining as writes
 use Rattle.write_client.specs.Writing as writers
-use Rattle.write_client.proofs.Machining as write_laws
 use Rattle.reclock_client.specs.declared.courses.Course.{Course}
 use Rattle.reclock_client.specs.declared.looks.Look.{Look}
 use Rattle.reclock_client.specs.Commands.{Next, after_poll}

@@ -1,12 +1,10 @@
 -- An inner machine that isn't at work follows on past what another one's poll has seen of the front.
-use Rattle.std.proofs.Common.{◌≡◌, ℕ, true, false, Bool, Option, Some, None, refl, sym, subst, inl, inr}
+use Rattle.std.proofs.Common.{◌≡◌, ℕ, true, false, Option, Some, None, sym, subst, inl, inr}
 use Rattle.std.specs.Prelude.{◌⊎◌, IsSome}
 use Rattle.store_core.specs.declared.calls.Call.{Call}
 use Rattle.store_core.specs.declared.replies.Reply.{Reply}
-use Rattle.store_core.specs.declared.shards.ShardId.{ShardId}
 use Rattle.store_core.specs.Histories.{History}
 use Rattle.store_core.specs.Ports.{GainsWhereTold, GrowsByOthers}
-use Rattle.history_core.specs.declared.asked.Asked.{Asked}
 use Rattle.history_core.specs.declared.read_answers.ReadAnswer.{ReadAnswer}
 use Rattle.history_core.specs.declared.write_answers.WriteAnswer.{WriteAnswer}
 use Rattle.load_core.specs.declared.polls.Poll.{Poll}

@@ -1,13 +1,12 @@
 -- What a poll of an inner machine leaves of an operator.
-use Rattle.std.proofs.Common.{◌≡◌, ℕ, Bool, true, false, Option, Some, None, Result, Ok, Err, refl, sym, ap, subst, ◌∙◌, inl, inr}
-use Rattle.std.specs.Prelude.{◌⊎◌, IsSome, OnErr}
+use Rattle.std.proofs.Common.{◌≡◌, ℕ, Option, Result, Ok, Err, refl, sym, ap, subst, ◌∙◌}
+use Rattle.std.specs.Prelude.{IsSome, OnErr}
 use Rattle.std.specs.declared.alloc.AllocError.{AllocError}
 use Rattle.store_core.specs.Histories.{History}
 use Rattle.history_core.specs.declared.read_answers.ReadAnswer.{ReadAnswer}
 use Rattle.history_core.specs.declared.write_answers.WriteAnswer.{WriteAnswer}
 use Rattle.load_core.specs.declared.polls.Poll.{Poll}
 use Rattle.load_core.specs.declared.polls.Poll.TheVariants as polls
-use Rattle.machine_core.specs.Machines.{Words}
 use Rattle.machine_core.specs.Polling as machines
 use Rattle.machine_core.specs.Polling.{CostGoesOn, FollowsWhere, LegalWhere}
 use Rattle.read_client.specs.declared.readers.Reader.{Reader}
@@ -31,7 +30,7 @@ use Rattle.reclock_client.specs.Commands.{IfDone, IsForth, Next, after_data_writ
 use Rattle.reclock_client.specs.Looking as looks
 use Rattle.reclock_client.specs.Looking.{looking}
 use Rattle.reclock_client.specs.Operators.{Follows, IsOpen, IsSound, Settles, part_of}
-use Rattle.reclock_client.specs.Polling.{Comes, Halts, Inner, Polled, PolledBy, PolledIf, Starts, Unpolled, UnpolledBy, bound, counted}
+use Rattle.reclock_client.specs.Polling.{Comes, Inner, PolledBy, UnpolledBy, counted}
 use Rattle.reclock_client.proofs.LookRule as look_laws
 use Rattle.reclock_client.proofs.Passing.{passed_memory, passed_poll}
 use Rattle.reclock_client.proofs.Endings.{look_over, polled_shard, reader_over, unpolled_shard, writer_over}

@@ -1,5 +1,5 @@
 -- Rows of which none is foreign raise partitions of the bindings, one after the other.
-use Rattle.std.proofs.Common.{◌≡◌, ℕ, ◌≤◌, ◌<◌, Bool, true, false, cond, Option, Some, None, List, [], ◌∷◌, ◌++◌, refl, sym, subst, ◌∙◌, arith}
+use Rattle.std.proofs.Common.{◌≡◌, ℕ, ◌≤◌, Bool, true, false, cond, Option, Some, None, List, [], ◌∷◌, ◌++◌, refl, sym, subst, ◌∙◌, arith}
 use Rattle.std.proofs.lemmas.Bool.Decides.{nat_tests}
 use Rattle.std.specs.Prelude.{nat_le, nat_lt}
 use Rattle.update_core.specs.declared.rows.Row.{Row}
@@ -7,7 +7,7 @@ use Rattle.update_core.specs.declared.updates.Update.{Update}
 use Rattle.remap_core.specs.Offsets.{unset}
 use Rattle.remap_core.specs.RemapShards.{offset_of}
 use Rattle.remap_core.specs.Extending.{UpToTime, before, partition_of, raised, reached, rows_at, with_row}
-use Rattle.reclock_client.specs.Reading.{AllRaise, foreign_time, in_time, is_rise, risen}
+use Rattle.reclock_client.specs.Reading.{AllRaise, foreign_time, in_time, is_rise}
 
 later : (s t : ℕ) (bs : List (ℕ × List ℕ)) → s ≤ t → UpToTime s bs → UpToTime t bs
 later s t [] le up = tt

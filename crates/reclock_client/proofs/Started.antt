@@ -1,5 +1,5 @@
 -- What the beginning of an inner command leaves of an operator.
-use Rattle.std.proofs.Common.{◌≡◌, ℕ, true, false, Bool, Option, Some, None, Result, Ok, Err, List, refl, sym, ap, subst, ◌∙◌, inl, inr}
+use Rattle.std.proofs.Common.{◌≡◌, ℕ, true, false, Bool, Option, Some, None, Result, Ok, Err, List, refl, sym, ap, subst, ◌∙◌, inr}
 use Rattle.std.specs.Prelude.{IfOk, IfSome, IsSome, OnErr, is_some}
 use Rattle.std.specs.declared.alloc.AllocError.{AllocError}
 use Rattle.update_core.specs.declared.updates.Update.{Update}

@@ -1,5 +1,5 @@
 -- What one poll of an operator does: which of its inner machines is polled, and what its answer makes of where it stands.
-use Rattle.std.specs.Prelude.{⊤, ◌≡◌, ◌⊎◌, ℕ, ◌+◌, min, Bool, true, false, Option, Some, None, IsSome, Result, Ok, List}
+use Rattle.std.specs.Prelude.{◌≡◌, ◌⊎◌, ℕ, ◌+◌, min, Bool, true, false, Option, Some, None, IsSome, Result, Ok, List}
 use Rattle.std.specs.declared.alloc.AllocError.{AllocError}
 use Rattle.update_core.specs.declared.updates.Update.{Update}
 use Rattle.update_core.specs.Frontiers.{after}

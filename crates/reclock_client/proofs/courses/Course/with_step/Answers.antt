@@ -1,4 +1,4 @@
-use Rattle.std.proofs.Common.{◌≡◌, ap, subst, sym}
+use Rattle.std.proofs.Common.{ap, subst, sym}
 use Rattle.reclock_client.specs.Commands.{Next}
 use Rattle.reclock_client.specs.Operators.{IsCourse}
 use Rattle.reclock_client.proofs.Raising.{step_rises}

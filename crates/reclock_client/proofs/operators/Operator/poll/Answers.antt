@@ -1,4 +1,4 @@
-use Rattle.std.proofs.Common.{◌≡◌, ap}
+use Rattle.std.proofs.Common.{ap}
 use Rattle.reclock_client.specs.Commands.{Next}
 use Rattle.reclock_client.proofs.Standing.{dead}
 use Rattle.reclock_client.proofs.operators.Operator.poll.Goals as goal

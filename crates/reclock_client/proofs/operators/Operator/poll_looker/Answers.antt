@@ -1,5 +1,4 @@
-use Rattle.std.proofs.Common.{◌≡◌, ℕ, Option, ap, ◌∙◌}
-use Rattle.reclock_client.specs.Polling.{counted}
+use Rattle.std.proofs.Common.{◌≡◌, ℕ, Option, ap}
 use Rattle.reclock_client.proofs.LookRule.{keeps}
 use Rattle.reclock_client.proofs.Polled.{look_came, look_left, of_busy, of_fault, on_err}
 use Rattle.std.specs.Prelude.{Ok}

@@ -1,4 +1,4 @@
-use Rattle.std.proofs.Common.{◌≡◌, ℕ, Option, ap, ◌∙◌}
+use Rattle.std.proofs.Common.{◌≡◌, ℕ, ap, ◌∙◌}
 use Rattle.reclock_client.specs.Polling.{counted}
 use Rattle.reclock_client.proofs.Polled.{remap_came, remap_left, of_busy, of_fault, on_err}
 use Rattle.std.specs.Prelude.{Ok}

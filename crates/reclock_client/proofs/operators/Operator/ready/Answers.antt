@@ -1,4 +1,4 @@
-use Rattle.std.proofs.Common.{◌≡◌, ℕ, Option, refl, sym, subst, ◌∙◌}
+use Rattle.std.proofs.Common.{ℕ, Option, refl, sym, subst, ◌∙◌}
 use Rattle.try_machine.specs.declared.tryers.Tryer.{Tryer}
 use Rattle.try_machine.proofs.Beginning.{asking_where}
 use Rattle.reclock_client.specs.declared.looks.Look.{Look}
