@@ -9,7 +9,7 @@ use Rattle.reclock_client.specs.declared.errands.Errand.TheVariants as errands
 use Rattle.reclock_client.specs.declared.intakes.Intake.TheVariants as intakes
 use Rattle.reclock_client.specs.declared.steps.Step.{Step}
 use Rattle.reclock_client.specs.declared.steps.Step.TheVariants as steps
-use Rattle.reclock_client.specs.Commands.{after_append_data, after_listen, after_append_remap, after_snapshot, ends, goes, published_from}
+use Rattle.reclock_client.specs.Commands.{after_append_data, after_listen, after_append_remap, ends, goes, published_from}
 
 -- an operator that has read up to 11, on an errand
 abbrev read_up_to_11 : Errand → Step → Course

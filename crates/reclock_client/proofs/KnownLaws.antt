@@ -3,24 +3,21 @@ use Rattle.std.proofs.Common.{◌≡◌, ℕ, ◌+◌, ◌-◌, ◌<◌, ◌^◌
 use Rattle.std.proofs.Common.{◌&&◌, cond, Option, Some, None, List, [], ◌∷◌, refl, sym, subst, arith}
 use Rattle.std.proofs.lemmas.Bool.Decides.{nat_tests}
 use Rattle.std.specs.List.{AllByRecursion}
-use Rattle.std.specs.Ordering.{is_gt}
 use Rattle.std.specs.Prelude.{nat_le, nat_lt}
 use Rattle.update_core.specs.declared.rows.Row.{Row}
 use Rattle.update_core.specs.declared.updates.Update.{Update}
-use Rattle.update_core.specs.Frontiers.{after, covers, frontier_cmp}
-use Rattle.update_core.specs.Updates.{moved, slice_of, sum_of}
+use Rattle.update_core.specs.Frontiers.{after, covers}
+use Rattle.update_core.specs.Updates.{slice_of, sum_of}
 use Rattle.update_core.proofs.SliceLaws.{covered_on}
 use Rattle.remap_core.specs.Offsets.{offset, unset}
-use Rattle.remap_core.specs.Extending.{Raises, last_time, partition_of, reached, rows_at, with_rows}
-use Rattle.remap_core.specs.RemapShards.{IsBindingsOf, change_at, offset_of}
+use Rattle.remap_core.specs.Extending.{Raises, partition_of, reached, rows_at, with_rows}
+use Rattle.remap_core.specs.RemapShards.{IsBindingsOf, offset_of}
 use Rattle.remap_core.proofs.StartLaws.{snapshot_starts}
 use Rattle.remap_core.proofs.StepLaws.{listen_extends}
-use Rattle.reclock_client.specs.declared.courses.Course.{Course}
 use Rattle.reclock_client.specs.declared.intakes.Intake.{Intake}
-use Rattle.reclock_client.specs.declared.intakes.Intake.TheVariants as intakes
 use Rattle.reclock_client.specs.Commands.{Next, strange, with_changes, with_content}
 use Rattle.reclock_client.specs.Known.{AreBytes, ContentIsKnown, IsKnown, StepIsKnown}
-use Rattle.reclock_client.specs.Reading.{foreign_time, in_time, is_one_byte, is_rise, left, risen}
+use Rattle.reclock_client.specs.Reading.{foreign_time, is_one_byte, is_rise, left, risen}
 
 -- a row that isn't foreign raises a partition
 raises_one : (datum : List ℕ) (time : ℕ) (diff : ℤ) (room : Bool) → AllByRecursion (λ b. b < 256) datum →

@@ -6,3 +6,10 @@ pub mod MintLaws
 pub mod Examples
 pub mod MintFits
 pub mod Beginnings
+pub mod Raising
+pub mod Sparing
+pub mod Passing
+pub mod Standing
+pub mod Started
+pub mod Endings
+pub mod Polled

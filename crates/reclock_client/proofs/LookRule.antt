@@ -1,7 +1,5 @@
 -- A look at a shard's upper is a rule. Entries go newest first.
-use Rattle.std.proofs.Common.{◌≡◌, ℕ, Option, Some, None, ◌∷◌, refl, sym, ap, subst, inl, inr}
-use Rattle.store_core.specs.Stores.{Stored}
-use Rattle.store_core.specs.declared.shards.ShardId.{ShardId}
+use Rattle.std.proofs.Common.{◌≡◌, ℕ, Option, Some, ◌∷◌, refl, sym, ap, subst, inl, inr}
 use Rattle.state_core.specs.declared.transitions.Transition.{Transition}
 use Rattle.state_core.specs.declared.transitions.Transition.TheVariants.{Init}
 use Rattle.state_core.specs.States.{ShardState}

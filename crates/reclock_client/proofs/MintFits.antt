@@ -1,6 +1,6 @@
 -- The append of a mint isn't refused for its range or its rows.
-use Rattle.std.proofs.Common.{◌≡◌, ◌≢◌, ℕ, zero, suc, ◌+◌, ◌-◌, ◌<◌, ◌≤◌, ◌^◌, Bool, true, false, not, ◌&&◌}
-use Rattle.std.proofs.Common.{cond, Option, Some, None, List, [], ◌∷◌, ◌++◌, length, refl, sym, ap, subst, ◌∙◌, arith}
+use Rattle.std.proofs.Common.{◌≡◌, ℕ, zero, suc, ◌+◌, ◌-◌, ◌≤◌, ◌^◌, Bool, true, false, not, ◌&&◌}
+use Rattle.std.proofs.Common.{cond, Some, None, List, [], ◌∷◌, ◌++◌, length, refl, ap, ◌∙◌, arith}
 use Rattle.std.proofs.lemmas.Bool.Decides.{nat_tests}
 use Rattle.std.proofs.lemmas.Iterator.Adapters.{position_from-zero}
 use Rattle.std.specs.List.{AllByRecursion, flat_map, position_from, range_with_len}
@@ -10,10 +10,8 @@ use Rattle.update_core.specs.Frontiers.{after, covers}
 use Rattle.state_core.specs.VersionReading.{most}
 use Rattle.remap_core.specs.Offsets.{offset}
 use Rattle.remap_core.specs.RemapShards.{partitions}
-use Rattle.load_core.specs.declared.begin_faults.BeginFault.{BeginFault}
 use Rattle.load_core.specs.declared.begin_faults.BeginFault.TheVariants as faults
-use Rattle.write_client.specs.declared.writers.Writer.{Writer}
-use Rattle.write_client.specs.Beginning.{range_fault, row_fault}
+use Rattle.write_client.specs.Beginning.{row_fault}
 use Rattle.write_client.specs.Drafting.{is_outside}
 use Rattle.reclock_client.specs.Known.{MintFits}
 use Rattle.reclock_client.specs.Minting.{rise_of, rises}

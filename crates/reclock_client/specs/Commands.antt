@@ -1,5 +1,5 @@
 -- The commands of an operator, made of commands of its inner machines: what follows each of these, by what it is answered.
-use Rattle.std.specs.Prelude.{ℕ, Bool, true, false, if◌then◌else◌, Option, Some, None, List, [], nat_le}
+use Rattle.std.specs.Prelude.{⊤, ℕ, Bool, true, false, if◌then◌else◌, Option, Some, None, List, [], nat_le}
 use Rattle.update_core.specs.declared.rows.Row.{Row}
 use Rattle.update_core.specs.declared.updates.Update.{Update}
 use Rattle.update_core.specs.Frontiers.{after, covers, is_at}
@@ -7,7 +7,6 @@ use Rattle.history_core.specs.declared.read_answers.ReadAnswer.{ReadAnswer}
 use Rattle.history_core.specs.declared.read_answers.ReadAnswer.TheVariants as reads
 use Rattle.history_core.specs.declared.write_answers.WriteAnswer.{WriteAnswer}
 use Rattle.history_core.specs.declared.write_answers.WriteAnswer.TheVariants as writes
-use Rattle.load_core.specs.declared.damages.Damage.{Damage}
 use Rattle.load_core.specs.declared.damages.Damage.TheVariants as damages
 use Rattle.load_core.specs.declared.polls.Poll.{Poll}
 use Rattle.load_core.specs.declared.polls.Poll.TheVariants as polls
@@ -212,3 +211,14 @@ after_poll answered c polls.Fault = (c, polls.Fault)
 after_poll answered c polls.Spent = (broken c, polls.Spent)
 after_poll answered c (polls.Damaged damage) = (broken c, polls.Damaged damage)
 after_poll answered c (polls.Done answer) = answered answer
+
+-- an answer takes the command on, or ends it
+abbrev pub IsForth : Poll ClockAnswer → Type 0
+IsForth polls.Busy = ⊥
+IsForth polls.Fault = ⊥
+IsForth _ = ⊤
+
+-- this holds where the inner command is answered
+abbrev pub IfDone : {A : Type 0} → Poll A → Type 0 → Type 0
+IfDone (polls.Done answer) P = P
+IfDone _ P = ⊤

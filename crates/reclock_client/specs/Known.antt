@@ -1,5 +1,5 @@
 -- What an operator knows is right, over the accepted updates of its remap shard.
-use Rattle.std.specs.Prelude.{◌≡◌, ◌≢◌, ℕ, ◌<◌, ◌≤◌, ◌+ℤ◌, pos, max, true, false, None, Option, List, []}
+use Rattle.std.specs.Prelude.{◌≡◌, ◌≢◌, ℕ, ◌<◌, ◌≤◌, ◌+ℤ◌, pos, max, true, false, None, Option, List}
 use Rattle.std.specs.List.{AllByRecursion}
 use Rattle.std.specs.Ordering.{is_gt}
 use Rattle.update_core.specs.declared.rows.Row.{Row}

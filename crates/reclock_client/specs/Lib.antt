@@ -6,4 +6,5 @@ pub mod Looking
 pub mod Starting
 pub mod Parts
 pub mod Operators
+pub mod Polling
 pub mod Known

@@ -1,6 +1,6 @@
 -- An operator: four inner machines of one client, and where it stands. Entries go newest first.
 use Rattle.std.specs.Prelude.{⊤, ◌≡◌, ◌≢◌, ◌⊎◌, ℕ, ◌≤◌, ◌^◌, Bool, true, false}
-use Rattle.std.specs.Prelude.{if◌then◌else◌, is_some, ◌+◌, min, Option, Some, None, IfSome, List, []}
+use Rattle.std.specs.Prelude.{if◌then◌else◌, is_some, ◌+◌, min, Option, Some, None, IfSome, IsSome, []}
 use Rattle.store_core.specs.declared.shards.ShardId.{ShardId}
 use Rattle.store_core.specs.Histories.{History}
 use Rattle.state_core.specs.VersionReading.{most}
@@ -82,6 +82,13 @@ calls_of o = min (o.calls + open_calls o (part_of o.course.step)) most
 
 -- ---- what it holds
 
+-- a command of an inner machine is open
+abbrev pub IsOpen : Operator → Part → Type 0
+IsOpen o parts.RemapWriter = IsSome o.remap_writer.asked
+IsOpen o parts.Reader = IsSome o.reader.asked
+IsOpen o parts.DataWriter = IsSome o.data_writer.asked
+IsOpen o parts.Looker = IsSome o.looker.asked
+
 -- a writer isn't at work: no command is open, or it hasn't been polled yet
 abbrev pub Rests : Writer → Type 0
 Rests w = (w.asked ≡ None) ⊎ (w ≡ writers.opened (writers.shard_of w))
@@ -96,10 +103,11 @@ OthersRest o parts.Reader = Rests o.remap_writer × Rests o.data_writer × (o.lo
 OthersRest o parts.DataWriter = Rests o.remap_writer × ReaderRests o × (o.looker.asked ≡ None)
 OthersRest o parts.Looker = Rests o.remap_writer × ReaderRests o × Rests o.data_writer
 
--- where no command is open, all of them rest
-abbrev pub IdleBy : Operator → Option Errand → Type 0
-IdleBy o None = Rests o.remap_writer × ReaderRests o × Rests o.data_writer × (o.looker.asked ≡ None)
-IdleBy o (Some errand) = ⊤
+-- where no command is open and one may begin, all of them rest
+abbrev pub IdleBy : Operator → Option Errand → Bool → Type 0
+IdleBy o None true = Rests o.remap_writer × ReaderRests o × Rests o.data_writer × (o.looker.asked ≡ None)
+IdleBy o None false = ⊤
+IdleBy o (Some errand) joined = ⊤
 
 -- a command of a reader that changes its member
 abbrev pub IsChange : Asked → Type 0
@@ -118,19 +126,27 @@ pub record IsCourse (c : Course) : Type 0 where
   pub raise : AllRaise c.bindings (left c.since c.intake)
   pub light : IsLight c.errand
 
+-- this stays where it was so and no row is left
+abbrev pub Settles : Course → Course → Type 0
+Settles old new = old.intake ≡ intakes.Nothing → IsCourse old → IsCourse new
+
+-- the machines, each sound and of its shard
+pub record AreSound (remap_at data_at : ShardId) (w : Writer) (r : Reader) (d : Writer) (l : Tryer Look) : Type 0 where
+  pub remap_writer : writers.IsSound w
+  pub reader : readers.IsSound r
+  pub data_writer : writers.IsSound d
+  pub looker : tryers.IsSound looking l
+  pub writes_remap : writers.shard_of w ≡ remap_at
+  pub reads_remap : readers.shard_of r ≡ remap_at
+  pub writes_data : writers.shard_of d ≡ data_at
+  pub looks_data : l.trying.loader.shard ≡ data_at
+  pub apart : remap_at ≢ data_at
+
 pub record IsSound (o : Operator) : Type 0 where
-  pub remap_writer : writers.IsSound o.remap_writer
-  pub reader : readers.IsSound o.reader
-  pub data_writer : writers.IsSound o.data_writer
-  pub looker : tryers.IsSound looking o.looker
-  -- each machine is of its shard
-  pub writes_remap : writers.shard_of o.remap_writer ≡ o.remap
-  pub reads_remap : readers.shard_of o.reader ≡ o.remap
-  pub writes_data : writers.shard_of o.data_writer ≡ o.data_shard
-  pub apart : o.remap ≢ o.data_shard
+  pub machines : AreSound o.remap o.data_shard o.remap_writer o.reader o.data_writer o.looker
   pub course : IsCourse o.course
   pub rest : OthersRest o (part_of o.course.step)
-  pub idle : IdleBy o o.course.errand
+  pub idle : IdleBy o o.course.errand o.course.joined
   -- while the reader leaves, the remap shard's writer has no member
   pub leaves : IfSome o.reader.asked (λ asked. IsChange asked → o.remap_writer.member ≡ None)
 

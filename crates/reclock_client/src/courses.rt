@@ -1,18 +1,17 @@
 // Course: where an operator stands, and what follows each answer of its inner machines.
 ghost use Rattle.std.specs.Prelude.{◌≡◌};
 ghost use Rattle.reclock_client.specs.Commands as commands;
-ghost use Rattle.reclock_client.specs.Commands.{ends, ends_gone, goes};
+ghost use Rattle.reclock_client.specs.Commands.{IsForth, ends, ends_gone, goes};
+ghost use Rattle.reclock_client.specs.Operators.{Settles};
 
 use crate::clock_answers::ClockAnswer;
 use crate::errands::Errand;
 use crate::intakes::Intake;
-use crate::sightings::{foreign_change, foreign_row, in_time};
 use crate::steps::Step;
-use history_core::{ReadAnswer, WriteAnswer};
+use history_core::WriteAnswer;
 use load_core::{Damage, Poll};
-use remap_core::{Bindings, SourceFrontier};
-use std::alloc::Global;
-use update_core::{Frontier, RowList, UpdateList};
+use remap_core::Bindings;
+use update_core::Frontier;
 
 /// Where an operator stands: what it knows of the remap shard, what its open command is for, and which inner command is next. See
 /// docs/DEFINITIONS.md, "Operators".
@@ -38,24 +37,30 @@ pub struct Course {
 
 impl Course {
     // The command goes on by a step.
-    fn go(&mut self, step: Step) -> Poll<ClockAnswer>
-        ensures { (self.new, result) ≡ goes self.old step }
+    pub(crate) fn go(&mut self, step: Step) -> Poll<ClockAnswer>
+        ensures next { (self.new, result) ≡ goes self.old step }
+        ensures course { Settles self.old self.new }
+        ensures forth { IsForth result }
     {
         self.step = step;
         Poll::More
     }
 
     // The command is answered.
-    fn end(&mut self, answer: ClockAnswer) -> Poll<ClockAnswer>
-        ensures { (self.new, result) ≡ ends self.old answer }
+    pub(crate) fn end(&mut self, answer: ClockAnswer) -> Poll<ClockAnswer>
+        ensures next { (self.new, result) ≡ ends self.old answer }
+        ensures course { Settles self.old self.new }
+        ensures forth { IsForth result }
     {
         self.errand = None;
         Poll::Done(answer)
     }
 
     // The same, and a member is gone.
-    fn end_gone(&mut self, answer: ClockAnswer) -> Poll<ClockAnswer>
-        ensures { (self.new, result) ≡ ends_gone self.old answer }
+    pub(crate) fn end_gone(&mut self, answer: ClockAnswer) -> Poll<ClockAnswer>
+        ensures next { (self.new, result) ≡ ends_gone self.old answer }
+        ensures course { Settles self.old self.new }
+        ensures forth { IsForth result }
     {
         self.errand = None;
         self.joined = false;
@@ -63,8 +68,10 @@ impl Course {
     }
 
     // An inner command has an answer that isn't one of its own.
-    fn strange(&mut self) -> Poll<ClockAnswer>
-        ensures { (self.new, result) ≡ commands.strange self.old }
+    pub(crate) fn strange(&mut self) -> Poll<ClockAnswer>
+        ensures next { (self.new, result) ≡ commands.strange self.old }
+        ensures course { Settles self.old self.new }
+        ensures forth { IsForth result }
     {
         self.errand = None;
         self.joined = false;
@@ -87,7 +94,9 @@ impl Course {
 
     // A mint appends where the upper is at or below its time.
     fn minted_at(&mut self, time: u64, upper: Frontier) -> Poll<ClockAnswer>
-        ensures { (self.new, result) ≡ commands.minted_at self.old time upper }
+        ensures next { (self.new, result) ≡ commands.minted_at self.old time upper }
+        ensures course { Settles self.old self.new }
+        ensures forth { IsForth result }
     {
         match upper.time() {
             None => self.end(ClockAnswer::Lost { upper }),
@@ -102,8 +111,10 @@ impl Course {
     }
 
     // The remap shard has been read.
-    fn read_all(&mut self) -> Poll<ClockAnswer>
-        ensures { (self.new, result) ≡ commands.read_all self.old self.old.errand }
+    pub(crate) fn read_all(&mut self) -> Poll<ClockAnswer>
+        ensures next { (self.new, result) ≡ commands.read_all self.old self.old.errand }
+        ensures course { Settles self.old self.new }
+        ensures forth { IsForth result }
     {
         let upper = self.synced;
         match &self.errand {
@@ -118,7 +129,9 @@ impl Course {
 
     // The rows between the data shard's upper and the synced frontier are to be appended, where there are times between them.
     fn published_from(&mut self, upper: Frontier) -> Poll<ClockAnswer>
-        ensures { (self.new, result) ≡ commands.published_from self.old upper }
+        ensures next { (self.new, result) ≡ commands.published_from self.old upper }
+        ensures course { Settles self.old self.new }
+        ensures forth { IsForth result }
     {
         let synced = self.synced;
         match upper.time() {
@@ -135,13 +148,17 @@ impl Course {
 
     /// What follows the look at the data shard's upper.
     pub fn after_look(&mut self, upper: Frontier) -> Poll<ClockAnswer>
-        ensures { (self.new, result) ≡ commands.published_from self.old upper }
+        ensures next { (self.new, result) ≡ commands.published_from self.old upper }
+        ensures course { Settles self.old self.new }
+        ensures forth { IsForth result }
     {
         self.published_from(upper)
     }
 
     fn after_join_remap(&mut self, answer: &WriteAnswer) -> Poll<ClockAnswer>
-        ensures { (self.new, result) ≡ commands.after_join_remap self.old self.old.errand answer.now }
+        ensures next { (self.new, result) ≡ commands.after_join_remap self.old self.old.errand answer.now }
+        ensures course { Settles self.old self.new }
+        ensures forth { IsForth result }
     {
         match answer {
             WriteAnswer::Opened { .. } => match &self.errand {
@@ -160,7 +177,9 @@ impl Course {
     }
 
     fn after_append_remap(&mut self, answer: &WriteAnswer) -> Poll<ClockAnswer>
-        ensures { (self.new, result) ≡ commands.after_append_remap self.old self.old.errand answer.now }
+        ensures next { (self.new, result) ≡ commands.after_append_remap self.old self.old.errand answer.now }
+        ensures course { Settles self.old self.new }
+        ensures forth { IsForth result }
     {
         match answer {
             WriteAnswer::Ok => match &self.errand {
@@ -183,7 +202,9 @@ impl Course {
     }
 
     fn after_leave_remap(&mut self, answer: &WriteAnswer) -> Poll<ClockAnswer>
-        ensures { (self.new, result) ≡ commands.after_leave_remap self.old self.old.errand answer.now }
+        ensures next { (self.new, result) ≡ commands.after_leave_remap self.old self.old.errand answer.now }
+        ensures course { Settles self.old self.new }
+        ensures forth { IsForth result }
     {
         match answer {
             WriteAnswer::Closed { .. } => match &self.errand {
@@ -197,7 +218,9 @@ impl Course {
 
     /// What follows an answer of the remap shard's writer.
     pub fn after_remap_writer(&mut self, answer: &WriteAnswer) -> Poll<ClockAnswer>
-        ensures { (self.new, result) ≡ commands.after_remap_writer self.old self.old.step answer.now }
+        ensures next { (self.new, result) ≡ commands.after_remap_writer self.old self.old.step answer.now }
+        ensures course { Settles self.old self.new }
+        ensures forth { IsForth result }
     {
         match self.step {
             Step::JoinRemap => self.after_join_remap(answer),
@@ -208,7 +231,9 @@ impl Course {
     }
 
     fn after_join_data(&mut self, answer: &WriteAnswer) -> Poll<ClockAnswer>
-        ensures { (self.new, result) ≡ commands.after_join_data self.old self.old.errand answer.now }
+        ensures next { (self.new, result) ≡ commands.after_join_data self.old self.old.errand answer.now }
+        ensures course { Settles self.old self.new }
+        ensures forth { IsForth result }
     {
         match answer {
             WriteAnswer::Opened { .. } => match &self.errand {
@@ -227,7 +252,9 @@ impl Course {
     }
 
     fn after_append_data(&mut self, answer: &WriteAnswer) -> Poll<ClockAnswer>
-        ensures { (self.new, result) ≡ commands.after_append_data self.old answer.now }
+        ensures next { (self.new, result) ≡ commands.after_append_data self.old answer.now }
+        ensures course { Settles self.old self.new }
+        ensures forth { IsForth result }
     {
         match answer {
             WriteAnswer::Ok => {
@@ -241,7 +268,9 @@ impl Course {
     }
 
     fn after_leave_data(&mut self, answer: &WriteAnswer) -> Poll<ClockAnswer>
-        ensures { (self.new, result) ≡ commands.after_leave_data self.old self.old.errand answer.now }
+        ensures next { (self.new, result) ≡ commands.after_leave_data self.old self.old.errand answer.now }
+        ensures course { Settles self.old self.new }
+        ensures forth { IsForth result }
     {
         match answer {
             WriteAnswer::Closed { .. } => match &self.errand {
@@ -255,7 +284,9 @@ impl Course {
 
     /// What follows an answer of the data shard's writer.
     pub fn after_data_writer(&mut self, answer: &WriteAnswer) -> Poll<ClockAnswer>
-        ensures { (self.new, result) ≡ commands.after_data_writer self.old self.old.step answer.now }
+        ensures next { (self.new, result) ≡ commands.after_data_writer self.old self.old.step answer.now }
+        ensures course { Settles self.old self.new }
+        ensures forth { IsForth result }
     {
         match self.step {
             Step::JoinData => self.after_join_data(answer),
@@ -263,142 +294,5 @@ impl Course {
             Step::LeaveData => self.after_leave_data(answer),
             _ => self.strange(),
         }
-    }
-
-    fn after_join_reader(&mut self, answer: &ReadAnswer) -> Poll<ClockAnswer>
-        ensures { (self.new, result) ≡ commands.after_join_reader self.old answer.now }
-    {
-        match answer {
-            ReadAnswer::Opened { since, .. } => {
-                self.since = *since;
-                self.go(Step::JoinData)
-            }
-            ReadAnswer::MembersFull { version } => {
-                self.end_gone(ClockAnswer::MembersFull { version: *version })
-            }
-            _ => self.strange(),
-        }
-    }
-
-    // The content at the reader's since.
-    fn with_content(&mut self, alloc: Global, rows: RowList) -> Poll<ClockAnswer>
-        ensures { (self.new, result) ≡ commands.after_snapshot self.old (ReadAnswer.Rows rows) }
-    {
-        self.listens = false;
-        if let Some(time) = foreign_row(self.since, &SourceFrontier::new(), rows.as_slice()) {
-            return self.end(ClockAnswer::Foreign { time });
-        }
-        self.bindings = Bindings::new(alloc);
-        self.intake = Intake::Content { rows };
-        self.synced = Frontier::after(self.since);
-        self.go(Step::Listen)
-    }
-
-    // The upper isn't past the reader's since.
-    fn with_late(&mut self, alloc: Global, upper: Frontier) -> Poll<ClockAnswer>
-        ensures { (self.new, result) ≡ commands.with_late self.old upper }
-    {
-        let since = self.since;
-        if !upper.is_at(0) {
-            return self.end(ClockAnswer::Early { since });
-        }
-        self.bindings = Bindings::new(alloc);
-        self.intake = Intake::Nothing;
-        self.synced = Frontier::at(0);
-        self.listens = false;
-        self.read_all()
-    }
-
-    fn after_snapshot(&mut self, alloc: Global, answer: ReadAnswer) -> Poll<ClockAnswer>
-        ensures { (self.new, result) ≡ commands.after_snapshot self.old answer }
-    {
-        match answer {
-            ReadAnswer::Rows(rows) => self.with_content(alloc, rows),
-            ReadAnswer::Late { upper } => self.with_late(alloc, upper),
-            ReadAnswer::Early { since } => self.end(ClockAnswer::Early { since }),
-            ReadAnswer::Expired { version } => self.end_gone(ClockAnswer::Expired { version }),
-            _ => self.strange(),
-        }
-    }
-
-    // The rows of a step of the listen, up to a frontier.
-    fn with_step(&mut self, rows: UpdateList, to: Frontier) -> Poll<ClockAnswer>
-        ensures { (self.new, result) ≡ commands.with_step self.old rows to }
-    {
-        if !in_time(self.bindings.last_time(), rows.as_slice()) {
-            return self.strange();
-        }
-        if let Some(time) = foreign_change(&self.bindings.reached(), rows.as_slice()) {
-            self.listens = false;
-            return self.end(ClockAnswer::Foreign { time });
-        }
-        self.intake = Intake::Changes { rows, done: 0 };
-        self.synced = to;
-        self.listens = true;
-        self.go(Step::Next)
-    }
-
-    fn after_listen(&mut self, answer: ReadAnswer) -> Poll<ClockAnswer>
-        ensures { (self.new, result) ≡ commands.after_listen self.old answer }
-    {
-        match answer {
-            ReadAnswer::Step { to, rows, .. } => self.with_step(rows, to),
-            ReadAnswer::Quiet { .. } | ReadAnswer::Ended => {
-                self.listens = true;
-                self.read_all()
-            }
-            ReadAnswer::Early { since } => {
-                self.listens = false;
-                self.end(ClockAnswer::Early { since })
-            }
-            ReadAnswer::Expired { version } => self.end_gone(ClockAnswer::Expired { version }),
-            _ => self.strange(),
-        }
-    }
-
-    fn after_leave_reader(&mut self, answer: &ReadAnswer) -> Poll<ClockAnswer>
-        ensures { (self.new, result) ≡ commands.after_leave_reader self.old answer.now }
-    {
-        match answer {
-            ReadAnswer::Closed { .. } => self.go(Step::LeaveData),
-            _ => self.strange(),
-        }
-    }
-
-    /// What follows an answer of the reader.
-    pub fn after_reader(&mut self, alloc: Global, answer: ReadAnswer) -> Poll<ClockAnswer>
-        ensures { (self.new, result) ≡ commands.after_reader self.old self.old.step answer }
-    {
-        match self.step {
-            Step::JoinReader => self.after_join_reader(&answer),
-            Step::Snapshot => self.after_snapshot(alloc, answer),
-            Step::Listen | Step::Next => self.after_listen(answer),
-            Step::LeaveReader => self.after_leave_reader(&answer),
-            _ => self.strange(),
-        }
-    }
-
-    /// The command ends without an answer. A member may then be gone that was to join or to leave.
-    pub fn break_off(&mut self)
-        ensures { self.new ≡ commands.broken self.old }
-    {
-        self.errand = None;
-        if changes_member(self.step) {
-            self.joined = false;
-        }
-    }
-}
-
-fn changes_member(step: Step) -> bool
-    ensures { result ≡ commands.changes_member step }
-{
-    match step {
-        Step::JoinRemap
-        | Step::JoinReader
-        | Step::JoinData
-        | Step::LeaveRemap
-        | Step::LeaveReader
-        | Step::LeaveData => true,
-        _ => false,
     }
 }

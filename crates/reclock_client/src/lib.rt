@@ -1,6 +1,7 @@
 //! Operators: clients that bind times to the offsets of a source on a remap shard, and publish its rows at these times on a data shard.
 #![tactic(auto)]
 
+mod after_polls;
 mod clock_answers;
 mod courses;
 mod errands;
@@ -9,6 +10,9 @@ pub mod laws;
 mod looks;
 mod mints;
 mod operators;
+mod polling;
+mod reader_courses;
+mod readying;
 mod sightings;
 mod starting;
 mod steps;

@@ -1,6 +1,4 @@
-use Rattle.std.proofs.Common.{ℕ, List, ◌≡◌, ◌≤◌, drop, length, sym, ap, subst, ◌∙◌, arith}
-use Rattle.remap_core.specs.Extending.{with_rows}
-use Rattle.reclock_client.specs.Reading.{AllRaise}
+use Rattle.std.proofs.Common.{drop, length, ap, arith}
 use Rattle.reclock_client.proofs.Binding.{all_bound, still_left}
 use Rattle.reclock_client.proofs.taking.bind_changes.Goals as goal
 

@@ -1,0 +1,48 @@
+use Rattle.std.proofs.Common.{ℕ, Option, refl, sym, subst, ◌∙◌}
+use Rattle.try_machine.specs.declared.tryers.Tryer.{Tryer}
+use Rattle.try_machine.proofs.Beginning.{asking_where}
+use Rattle.reclock_client.specs.declared.looks.Look.{Look}
+use Rattle.reclock_client.specs.declared.operators.Operator.{Operator}
+use Rattle.reclock_client.specs.Looking.{looking}
+use Rattle.reclock_client.specs.Operators.{Follows}
+use Rattle.reclock_client.proofs.Started.{data_ready, read_ready, remap_ready}
+use Rattle.reclock_client.proofs.operators.Operator.ready.Goals as goal
+
+pub returns-else-busy-clause-sound : goal.returns-else-busy-clause-sound
+returns-else-busy-clause-sound c = (remap_ready c.args.self.now c.start_remap_writer.new.self c.requires.sound c.requires.busy
+    c.start_remap_writer.result (sym c.part.ensures ∙ c.in-RemapWriter.is) c.start_remap_writer.ensures.starts
+    c.start_remap_writer.ensures.memory c.start_remap_writer.ensures.sound).sound
+
+pub returns-else-busy-clause-course : goal.returns-else-busy-clause-course
+returns-else-busy-clause-course c = (remap_ready c.args.self.now c.start_remap_writer.new.self c.requires.sound c.requires.busy
+    c.start_remap_writer.result (sym c.part.ensures ∙ c.in-RemapWriter.is) c.start_remap_writer.ensures.starts
+    c.start_remap_writer.ensures.memory c.start_remap_writer.ensures.sound).course
+
+pub returns-else-busy-2-clause-sound : goal.returns-else-busy-2-clause-sound
+returns-else-busy-2-clause-sound c = (read_ready c.args.self.now c.start_reader.new.self c.requires.sound c.requires.busy
+    c.start_reader.result (sym c.part.ensures ∙ c.in-Reader.is) (sym c.busy-in-Reader.ensures ∙ c.if-busy-2.false)
+    c.start_reader.ensures.starts c.start_reader.ensures.writer c.start_reader.ensures.sound).sound
+
+pub returns-else-busy-2-clause-course : goal.returns-else-busy-2-clause-course
+returns-else-busy-2-clause-course c = (read_ready c.args.self.now c.start_reader.new.self c.requires.sound c.requires.busy
+    c.start_reader.result (sym c.part.ensures ∙ c.in-Reader.is) (sym c.busy-in-Reader.ensures ∙ c.if-busy-2.false)
+    c.start_reader.ensures.starts c.start_reader.ensures.writer c.start_reader.ensures.sound).course
+
+pub returns-else-busy-3-clause-sound : goal.returns-else-busy-3-clause-sound
+returns-else-busy-3-clause-sound c = (data_ready c.args.self.now c.start_data_writer.new.self c.requires.sound c.requires.busy
+    c.start_data_writer.result (sym c.part.ensures ∙ c.in-DataWriter.is) c.start_data_writer.ensures.starts
+    c.start_data_writer.ensures.memory c.start_data_writer.ensures.sound).sound
+
+pub returns-else-busy-3-clause-course : goal.returns-else-busy-3-clause-course
+returns-else-busy-3-clause-course c = (data_ready c.args.self.now c.start_data_writer.new.self c.requires.sound c.requires.busy
+    c.start_data_writer.result (sym c.part.ensures ∙ c.in-DataWriter.is) c.start_data_writer.ensures.starts
+    c.start_data_writer.ensures.memory c.start_data_writer.ensures.sound).course
+
+pub returns-then-is_none-clause-follows : goal.returns-then-is_none-clause-follows
+returns-then-is_none-clause-follows c = λ client front h.
+    subst (λ (l : Tryer Look). let y : Operator = record c.args.self.now { looker = l } in Follows client front y) (sym c.begin.ensures) (record {
+      remap_writer = h.remap_writer;
+      reader = h.reader;
+      data_writer = h.data_writer;
+      looker = asking_where Look (Option ℕ) looking c.args.self.now.looker (record {}) client front refl (λ start es. tt) h.looker;
+    })
