@@ -88,7 +88,13 @@ fn try_plan<R: Threads + Wait + Sync, G: Gate + Sync>(
     if !is_feed(&plan.appends) {
         return None;
     }
-    if plan.writers > 20 || plan.compactors > 20 || plan.collectors > 20 {
+    if plan.writers > 20 {
+        return None;
+    }
+    if plan.compactors > 20 {
+        return None;
+    }
+    if plan.collectors > 20 {
         return None;
     }
     let store = MemStore::new(alloc, FaultList::new(alloc));
