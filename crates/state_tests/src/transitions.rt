@@ -1,4 +1,5 @@
-use spine_core::{Batch, Desc, KeyList, Spine};
+use crate::versions::one_append;
+use spine_core::{Batch, Desc, KeyList};
 use state_core::*;
 use std::alloc::{AllocError, Global};
 use std::test::Fail;
@@ -209,25 +210,18 @@ fn a_refused_merge_changes_nothing(rt: HostRuntime) -> Result<(), Fail> {
     Ok(())
 }
 
-// A state with the last number.
-fn last(alloc: Global) -> State {
-    State {
-        shard: SHARD,
-        number: u64::MAX,
-        next_member: 0,
-        since: 0,
-        upper: Frontier::at(0),
-        weight: 0,
-        members: MemberList::new(alloc),
-        spine: Spine::new(alloc),
-    }
+// A state with the last number, in which member 0 stands.
+fn last(alloc: Global) -> Result<State, Fail> {
+    let bytes = one_append(alloc)?;
+    let (state, _step) = decode_version(alloc, SHARD, u64::MAX, &bytes)?;
+    Ok(state)
 }
 
 #[test]
 fn after_the_last_number_a_look_tells_more(rt: HostRuntime) -> Result<(), Fail> {
     let alloc = rt.alloc();
-    let mut state = last(alloc);
-    let step = Transition::Leave { member: 0 };
+    let mut state = last(alloc)?;
+    let step = Transition::Leave { member: 7 };
     assert!(rt; is_refused(alloc, &mut state, &step, (2, 0))?);
     let looked = state.refusal_by_kind(&step);
     assert!(rt; matches!(looked, Some(Refusal::NoMember)));

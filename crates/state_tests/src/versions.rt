@@ -59,7 +59,7 @@ fn put(bytes: &mut Vec<u8>, numbers: &[u64]) -> Result<(), AllocError> {
 }
 
 // A writer has joined and has added one row: version 2.
-fn one_append(alloc: Global) -> Result<Vec<u8>, AllocError> {
+pub(crate) fn one_append(alloc: Global) -> Result<Vec<u8>, AllocError> {
     let mut bytes = Vec::new(alloc);
     bytes.extend_from_slice(b"PVER\x01")?;
     put(&mut bytes, &[1, 0])?;
