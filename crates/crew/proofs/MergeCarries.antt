@@ -40,7 +40,7 @@ use Rattle.token_machine.proofs.Ways.{call_false, call_true}
 use Rattle.merge_client.specs.declared.compactors.Compactor.{Compactor}
 use Rattle.merge_client.specs.declared.dues.Due.{Due}
 use Rattle.merge_client.specs.Finding.{finding}
-use Rattle.merge_client.specs.Following.{Follows}
+use Rattle.merge_client.specs.Following.{Follows, FollowsAll}
 use Rattle.merge_client.specs.Machining.{Kept, kept, machine}
 use Rattle.merge_client.specs.Merging.{IsOpen, IsSound, Prepares, call_by, call_of, shard_of}
 use Rattle.merge_client.proofs.Going.{Asks, asks_of, closes, merges, opens, renews, step_of}
@@ -112,12 +112,15 @@ carried own d x (calls.Delete key) c step = tt
 
 module _ (client : ℕ) (c ready : Compactor) (sound : IsSound c) (opened : IsOpen c) (asked : IfSome c.asked AsksToMerge)
     (prepares : Prepares c ready) (call : Call) (call_is : call_of ready ≡ Some call) (start : Stored) (es : List Entry)
-    (f : Follows client c start es) where
+    (f : FollowsAll client c start es) where
   abbrev own : List Answered
   own = mine_back start es client
 
+  f_all : FollowsAll client ready start es
+  f_all = keeps.prepared_follows client c ready start es prepares f
+
   f2 : Follows client ready start es
-  f2 = keeps.prepared_follows client c ready start es prepares f
+  f2 = f_all.follows
 
   same : kept ready ≡ kept c
   same = keeps.prepared_kept c ready prepares

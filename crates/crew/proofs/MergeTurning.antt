@@ -21,7 +21,7 @@ use Rattle.load_core.specs.declared.polls.Poll.TheVariants as polls
 use Rattle.load_core.specs.Fronts.{Backwards, WhereLawful}
 use Rattle.machine_core.specs.Polling.{FollowsWhere, LegalWhere, Polled, Unpolled}
 use Rattle.merge_client.specs.declared.compactors.Compactor.{Compactor}
-use Rattle.merge_client.specs.Following.{Follows}
+use Rattle.merge_client.specs.Following.{FollowsAll}
 use Rattle.merge_client.specs.Machining.{Kept, Legal, command_in, kept, machine}
 use Rattle.merge_client.specs.Merging.{IsOpen, Prepares, call_of, shard_of}
 use Rattle.merge_client.proofs.Machining.{keeps}
@@ -115,7 +115,7 @@ comes_ready client front w (turns.End end) k = tt
 
 module _ (client : ℕ) (front now : Option History) (w : CompactorWorker) (ready : IsReady client front w) where
   carries : (r : Compactor) → Prepares w.compactor r → (call : Call) → call_of r ≡ Some call → (reply : Reply) (poll : Poll MergeAnswer) →
-      machine.Effect (kept w.compactor) call reply poll → (start : Stored) (es : List Entry) → Follows client w.compactor start es →
+      machine.Effect (kept w.compactor) call reply poll → (start : Stored) (es : List Entry) → FollowsAll client w.compactor start es →
       CarriesWorkers as_compactor w.shard (mine_back start es client) call
   carries r prepares call is reply poll did start es f =
       subst (λ (d : ShardId). CarriesWorkers as_compactor d (mine_back start es client) call) ready.of_shard
