@@ -2,4 +2,5 @@ pub mod Sayings
 pub mod Faults
 pub mod Stepping
 pub mod Clients
+pub mod Begins
 pub mod Polls

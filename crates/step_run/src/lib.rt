@@ -3,17 +3,23 @@
 #![tactic(auto)]
 
 mod answers;
+mod begins;
+mod clients;
 mod polls;
 mod printing;
 mod sayings;
+mod scenes;
 mod speakers;
 mod step_faults;
 mod stepping;
 
 pub use answers::{expire_says, refusal_says};
+pub use begins::begin;
+pub use clients::Client;
 pub use polls::step_open;
 pub use printing::{print_faults, print_head, print_said};
 pub use sayings::Saying;
+pub use scenes::Scene;
 pub use speakers::Speaker;
 pub use step_faults::StepFault;
 pub use stepping::{Stepped, step};
