@@ -1,5 +1,5 @@
-//! The command `steps`: a schedule of single store calls, over one store. So far: what one line does that has a client polled, with the
-//! bound of its command, and what is printed of a client.
+//! The command `steps`: a schedule of single store calls, over one store. So far: commands that are begun, what one line does that has
+//! a client polled, with the bound of its command, and what is printed of a client.
 #![tactic(auto)]
 
 mod answers;
