@@ -4,3 +4,5 @@ pub mod Stepping
 pub mod Clients
 pub mod Begins
 pub mod Polls
+pub mod Kinds
+pub mod Makes
