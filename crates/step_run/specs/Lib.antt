@@ -1,3 +1,10 @@
 pub mod Sayings
 pub mod Faults
 pub mod Stepping
+pub mod Clients
+pub mod Begins
+pub mod Polls
+pub mod Makes
+pub mod Lines
+pub mod Executing
+pub mod Endings

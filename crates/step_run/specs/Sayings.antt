@@ -9,6 +9,8 @@ use Rattle.history_core.specs.declared.write_answers.WriteAnswer.{WriteAnswer}
 use Rattle.history_core.specs.declared.write_answers.WriteAnswer.TheVariants as writes
 use Rattle.history_core.specs.declared.read_answers.ReadAnswer.{ReadAnswer}
 use Rattle.history_core.specs.declared.read_answers.ReadAnswer.TheVariants as reads
+use Rattle.history_core.specs.declared.merge_answers.MergeAnswer.{MergeAnswer}
+use Rattle.history_core.specs.declared.merge_answers.MergeAnswer.TheVariants as merges
 use Rattle.history_core.specs.declared.collect_answers.CollectAnswer.{CollectAnswer}
 use Rattle.history_core.specs.declared.collect_answers.CollectAnswer.TheVariants as collects
 use Rattle.history_core.specs.declared.expire_answers.ExpireAnswer.{ExpireAnswer}
@@ -109,6 +111,16 @@ read_says (reads.Back since) = Some (says.Back since)
 read_says (reads.Renewed version) = Some says.Accepted
 read_says (reads.Closed version) = Some says.Accepted
 read_says (reads.Expired version) = Some (says.Expired version)
+
+abbrev pub merge_says : MergeAnswer → Option Saying
+merge_says (merges.Opened member version) = None
+merge_says (merges.MembersFull version) = Some says.Full
+merge_says (merges.Merged version) = Some (says.Merged version)
+merge_says (merges.NothingDue version) = Some (says.Nothing version)
+merge_says (merges.Superseded version) = Some (says.Superseded version)
+merge_says (merges.Renewed version) = Some says.Accepted
+merge_says (merges.Closed version) = Some says.Accepted
+merge_says (merges.Expired version) = Some (says.Expired version)
 
 abbrev pub collect_says : CollectAnswer → Option Saying
 collect_says (collects.Collected floor deleted) = Some (says.Collected floor deleted)

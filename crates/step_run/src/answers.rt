@@ -1,9 +1,9 @@
 // What answers say.
 ghost use Rattle.std.specs.Prelude.{◌≡◌};
-ghost use Rattle.step_run.specs.Sayings.{collect_says, expire_says, read_says, refusal_says, write_says};
+ghost use Rattle.step_run.specs.Sayings.{collect_says, expire_says, merge_says, read_says, refusal_says, write_says};
 
 use crate::sayings::Saying;
-use history_core::{CollectAnswer, ExpireAnswer, ReadAnswer, WriteAnswer};
+use history_core::{CollectAnswer, ExpireAnswer, MergeAnswer, ReadAnswer, WriteAnswer};
 use load_core::BeginFault;
 
 /// What a writer's answer says.
@@ -41,6 +41,22 @@ pub fn read_says(answer: ReadAnswer) -> Option<Saying>
         ReadAnswer::Renewed { .. } => Some(Saying::Accepted),
         ReadAnswer::Closed { .. } => Some(Saying::Accepted),
         ReadAnswer::Expired { version } => Some(Saying::Expired { version }),
+    }
+}
+
+/// What a compactor's answer says.
+pub fn merge_says(answer: MergeAnswer) -> Option<Saying>
+    ensures { result ≡ merge_says answer }
+{
+    match answer {
+        MergeAnswer::Opened { .. } => None,
+        MergeAnswer::MembersFull { .. } => Some(Saying::Full),
+        MergeAnswer::Merged { version } => Some(Saying::Merged { version }),
+        MergeAnswer::NothingDue { version } => Some(Saying::Nothing { version }),
+        MergeAnswer::Superseded { version } => Some(Saying::Superseded { version }),
+        MergeAnswer::Renewed { .. } => Some(Saying::Accepted),
+        MergeAnswer::Closed { .. } => Some(Saying::Accepted),
+        MergeAnswer::Expired { version } => Some(Saying::Expired { version }),
     }
 }
 

@@ -1,0 +1,98 @@
+// Clients polled.
+ghost use Rattle.std.specs.Prelude.{◌≡◌, ◌≢◌, ◌+◌, ◌<◌, ◌≤◌, None, Err, OnOk};
+ghost use Rattle.state_core.specs.VersionReading.{most};
+ghost use Rattle.machine_core.specs.Machines.{Ending, Keeps};
+ghost use Rattle.driving.specs.Goings.{Goes, GrowsBy};
+ghost use Rattle.step_run.specs.Clients.{ClientFits, Fits};
+ghost use Rattle.step_run.specs.Polls.{ClientPollsTo, PollsTo, said_of};
+ghost use Rattle.step_run.specs.Stepping.{EndsAnswered};
+
+use crate::clients::Client;
+use crate::sayings::Saying;
+use crate::speakers::Speaker;
+use crate::step_faults::StepFault;
+use crate::stepping::{Stepped, step};
+use driving::SolePort;
+use std::alloc::Global;
+use store_core::{ShardId, Store};
+
+// Nothing was done.
+fn idle() -> Stepped<Saying>
+    ensures faults { result.faults ≡ 0 }
+    ensures silent { result.answer ≡ None }
+{
+    Stepped {
+        faults: 0,
+        answer: None,
+    }
+}
+
+// What an answer says, if one came.
+fn said<M: Speaker>(answer: Option<M::Answer>) -> Option<Saying>
+    ensures { result ≡ said_of M.says answer }
+{
+    M::saying(answer?)
+}
+
+// Polls the open command of a machine so many times, or until it ends. Without one nothing is done.
+fn step_open<M: Speaker, S: Store>(
+    alloc: Global,
+    machine: &mut M,
+    port: &mut SolePort<S>,
+    shard: ShardId,
+    asked: u64,
+    polls: u64,
+) -> Result<Stepped<Saying>, StepFault>
+    requires keeps { Keeps M.words }
+    requires ending { Ending M.words }
+    requires answered { EndsAnswered M.words }
+    requires fits { Fits M.words shard port.old.client asked (S.history port.old.store) machine.old }
+    requires few { asked + polls < most }
+    ensures told { Goes shard (S.history port.old.store) (S.history port.new.store)
+        (PollsTo M.words M.says shard port.old.client polls machine.old machine.new result) }
+    ensures by { OnOk result (GrowsBy port.old.client (S.history port.old.store) (S.history port.new.store)) }
+    ensures fits { OnOk result (Fits M.words shard port.old.client (asked + polls) (S.history port.new.store) machine.new) }
+    ensures fault { result ≢ Err StepFault.Store }
+    ensures sink { result ≢ Err StepFault.Sink }
+    ensures later { S.faults port.old.store ≤ S.faults port.new.store }
+{
+    if !machine.is_busy() {
+        return Ok(idle());
+    }
+    let stepped = step(alloc, machine, port, polls)?;
+    Ok(Stepped {
+        faults: stepped.faults,
+        answer: said::<M>(stepped.answer),
+    })
+}
+
+/// Polls the open command of a client so many times, or until it ends. Without one nothing is done. No command has made more calls
+/// than `asked` before.
+pub(crate) fn step_client<S: Store>(
+    alloc: Global,
+    client: &mut Client,
+    port: &mut SolePort<S>,
+    shard: ShardId,
+    asked: u64,
+    polls: u64,
+) -> Result<Stepped<Saying>, StepFault>
+    requires fits { ClientFits shard port.old.client asked (S.history port.old.store) client.old }
+    requires few { asked + polls < most }
+    ensures told { Goes shard (S.history port.old.store) (S.history port.new.store)
+        (ClientPollsTo shard port.old.client polls client.old client.new result) }
+    ensures by { OnOk result (GrowsBy port.old.client (S.history port.old.store) (S.history port.new.store)) }
+    ensures fits { OnOk result (ClientFits shard port.old.client (asked + polls) (S.history port.new.store) client.new) }
+    ensures fault { result ≢ Err StepFault.Store }
+    ensures sink { result ≢ Err StepFault.Sink }
+    ensures later { S.faults port.old.store ≤ S.faults port.new.store }
+{
+    match client {
+        Client::Writer(writer) => step_open(alloc, writer, port, shard, asked, polls),
+        Client::Reader(reader) => step_open(alloc, reader, port, shard, asked, polls),
+        Client::Compactor(compactor) => step_open(alloc, compactor, port, shard, asked, polls),
+        Client::Collector(collector) => step_open(alloc, collector, port, shard, asked, polls),
+        Client::Expirer(expirer) => {
+            step_open(alloc, &mut expirer.tryer, port, shard, asked, polls)
+        }
+    }
+}
