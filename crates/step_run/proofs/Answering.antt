@@ -1,5 +1,6 @@
 -- Only a call that was answered ends a command, of each kind of client.
-use Rattle.std.proofs.Common.{◌≡◌, inl, inr, refl, sym, ◌∙◌}
+use Rattle.std.proofs.Common.{◌≡◌, inl, inr, Option, Some, None, true, false, refl, sym, subst, ◌∙◌}
+use Rattle.std.specs.Prelude.{IsSome}
 use Rattle.store_core.specs.declared.shards.ShardId.{ShardId}
 use Rattle.store_core.specs.declared.calls.Call.{Call}
 use Rattle.store_core.specs.declared.replies.Reply.{Reply}
@@ -21,7 +22,7 @@ use Rattle.merge_client.specs.Machining as merge
 use Rattle.merge_client.specs.Polling as merging
 use Rattle.maint_client.specs.Collecting as collect
 use Rattle.maint_client.specs.Expiring as expire
-use Rattle.step_run.specs.Stepping.{EndsAnswered}
+use Rattle.step_run.specs.Stepping.{EndsAnswered, EndsIdle}
 
 -- a commit isn't a failure
 commits : (shard : ShardId) (step : Transition) (call : Call) (r : Reply) → CommitsStep shard step call r → r ≡ replies.Failed → ⊥
@@ -85,3 +86,23 @@ expires_end k call r answer did failed = elim did.did [
   | inl x ↦ commits k.shard k.step call r x failed
   | inr x ↦ none r x.0 failed
 ]
+
+-- ---- an answer leaves no command
+
+pub over_closed : {X : Type 0} (asked : Option X) → asked ≡ None → IsSome asked → ⊥
+over_closed {X = X} asked is h = let bad : false ≡ true = subst (λ (o : Option X). IsSome o) is h in cc
+
+pub writes_idle : EndsIdle write.machine
+writes_idle k answer w over = over_closed w.asked over.asked
+
+pub reads_idle : EndsIdle read.machine
+reads_idle k answer r over = over_closed r.asked over.asked
+
+pub merges_idle : EndsIdle merge.machine
+merges_idle k answer c over = over_closed c.asked over.asked
+
+pub collects_idle : EndsIdle collect.collecting
+collects_idle k answer c over = over_closed c.asked over.asked
+
+pub expires_idle : EndsIdle expire.machine
+expires_idle k answer x over = over_closed x.asked over.asked

@@ -2,11 +2,14 @@
 use Rattle.std.proofs.Common.{◌≡◌, ◌≢◌, ℕ, suc, zero, ◌+◌, ◌<◌, ◌≤◌, inl, inr, ◌⊎◌, Option, Some, None, List, [], ◌∷◌, ◌++◌, length, refl, sym, ap, subst, ◌∙◌, arith}
 use Rattle.std.specs.Prelude.{slice_index_or, slice_set}
 use Rattle.std.specs.List.{AllByRecursion}
+use Rattle.update_core.specs.declared.updates.Update.{Update}
 use Rattle.store_core.specs.declared.shards.ShardId.{ShardId}
 use Rattle.store_core.specs.declared.entries.Entry.{Entry}
 use Rattle.store_core.specs.Histories.{History}
+use Rattle.store_core.specs.Stores.{Stored}
 use Rattle.store_core.specs.Ports.{GrowsByOthers, OfOthers, with_entries}
-use Rattle.machine_core.specs.Machines.{Keeps, Words}
+use Rattle.machine_core.specs.Machines.{Keeps, Words, shard_of}
+use Rattle.machine_core.proofs.Fronts.{both_where, past_others, there_too}
 use Rattle.machine_core.proofs.Polls.{others_where}
 use Rattle.driving.specs.Goings.{GrowsBy}
 use Rattle.write_client.specs.Machining as write
@@ -21,6 +24,7 @@ use Rattle.maint_client.specs.Expiring as expire
 use Rattle.maint_client.proofs.Keeping as expire_proofs
 use Rattle.step_run.specs.declared.clients.Client.{Client}
 use Rattle.step_run.specs.declared.clients.Client.TheVariants as clients
+use Rattle.step_run.proofs.PastOthers.{KeepsPast, collects_past, expires_past, merges_past, reads_past, writes_past}
 use Rattle.step_run.specs.Clients.{AllFit, Becomes, ClientFits, Fits, IsSound}
 
 -- ---- while another client works
@@ -35,27 +39,34 @@ grows_for client other apart (Some h) b (k, k_is, more, start_is, trail_is, own)
     let same : k ≡ with_entries h more = λ i. record { start = start_is i; trail = trail_is i } in
     (more, others_alone client other apart more own, k_is ∙ ap (λ (q : History). Some q) same)
 
-waits : {M A : Type 0} → (W : Words M A) → Keeps W → (shard : ShardId) (client other p q : ℕ) → client ≢ other → p ≤ q → (m : M)
+waits : {M A : Type 0} → (W : Words M A) → Keeps W → KeepsPast W → (shard : ShardId) (client other p q : ℕ) → client ≢ other → p ≤ q → (m : M)
     (a b : Option History) → GrowsBy other a b → Fits W shard client p a m → Fits W shard client q b m
-waits {M = M} {A = A} W keeps shard client other p q apart few m a b grows f = record {
+waits {M = M} {A = A} W keeps past shard client other p q apart few m a b grows f = record {
   shard_is = f.shard_is;
   sound = f.sound;
   follows = others_where M A W keeps client a b m f.follows (grows_for client other apart a b grows);
   few = λ is. let below = f.few is in omega (arith, below, few);
+  cost = λ is.
+      let P : Stored → List Entry → List Update → Type 0 = λ start es list. W.Follows client m start es in
+      let Q : Stored → List Entry → List Update → Type 0 = W.CostAt W.least client m in
+      let both = past_others (shard_of W m) client a b (λ start es list. P start es list × Q start es list)
+      (λ start others es list of h. (keeps.others_follow client m start others es of h.0, past client m start others es list of is f.sound h.0 h.1))
+      (both_where (shard_of W m) a P Q f.follows (f.cost is)) (grows_for client other apart a b grows) in
+      there_too (shard_of W m) b (λ start es list. P start es list × Q start es list) Q (λ start es list h. h.1) both;
 }
 
 pub client_waits : (shard : ShardId) (client other p q : ℕ) → client ≢ other → p ≤ q → (c : Client) (a b : Option History) → GrowsBy other a b →
     ClientFits shard client p a c → ClientFits shard client q b c
 client_waits shard client other p q apart few (clients.Writer w) a b grows f =
-    waits write.machine write_proofs.keeps shard client other p q apart few w a b grows f
+    waits write.machine write_proofs.keeps writes_past shard client other p q apart few w a b grows f
 client_waits shard client other p q apart few (clients.Reader r) a b grows f =
-    waits read.machine read_proofs.keeps shard client other p q apart few r a b grows f
+    waits read.machine read_proofs.keeps reads_past shard client other p q apart few r a b grows f
 client_waits shard client other p q apart few (clients.Compactor c) a b grows f =
-    waits merge.machine merge_proofs.keeps shard client other p q apart few c a b grows f
+    waits merge.machine merge_proofs.keeps merges_past shard client other p q apart few c a b grows f
 client_waits shard client other p q apart few (clients.Collector c) a b grows f =
-    waits collect.collecting collect_proofs.keeps shard client other p q apart few c a b grows f
+    waits collect.collecting collect_proofs.keeps collects_past shard client other p q apart few c a b grows f
 client_waits shard client other p q apart few (clients.Expirer x) a b grows f =
-    waits expire.machine expire_proofs.keeps shard client other p q apart few x.tryer a b grows f
+    waits expire.machine expire_proofs.keeps expires_past shard client other p q apart few x.tryer a b grows f
 
 -- none of these has the other's number
 pub all_wait : (shard : ShardId) (n other p q : ℕ) (cs : List Client) (a b : Option History) → (other < n) ⊎ (n + length cs ≤ other) → p ≤ q →

@@ -13,8 +13,10 @@ use Rattle.driving.specs.declared.drive_faults.DriveFault.TheVariants as drives
 use Rattle.driving.specs.Drives.{Answered, Drove, Scanned}
 use Rattle.driving.specs.Goings.{Goes}
 use Rattle.driving.proofs.GoingLaws.{going_so}
+use Rattle.step_run.specs.declared.entered.Entered.{Entered}
 use Rattle.step_run.specs.declared.step_faults.StepFault.{StepFault}
 use Rattle.step_run.specs.Faults.{FailedBy, drive_fault}
+use Rattle.step_run.specs.Makes.{MakesTo}
 
 module _ {M A : Type 0} (W : Words M A) (client : ℕ) (shard : ShardId) (k : W.Kept) (own : W.shard k ≡ shard) (a d : Option History) where
   there : (fault : DriveFault) → Goes (W.shard k) a d (Drove W client k (Err fault)) →
@@ -39,7 +41,10 @@ module _ {M A : Type 0} (W : Words M A) (client : ℕ) (shard : ShardId) (k : W.
       going_so shard a d (Answered W client k answer) how (subst (λ (s : ShardId). Goes s a d (Drove W client k (Ok answer))) own went)
       (λ list start es now bt x. so list start es now x)
 
--- a command that has ended isn't open
-pub over_closed : {X : Type 0} (asked : Option X) → asked ≡ None → IsSome asked → ⊥
-over_closed None is h = h
-over_closed (Some x) is h = let bad : Some x ≡ None = is in cc
+-- what has become of a client that was to be made, in other words
+pub makes_as : (shard : ShardId) (a d : Option History) (first how : Entered → List Update → Stored → List Entry → List Entry → Type 0) →
+    ((e : Entered) (list : List Update) (start : Stored) (es now : List Entry) → first e list start es now → how e list start es now) →
+    (r : Result Entered StepFault) → Goes shard a d (MakesTo shard first r) → Goes shard a d (MakesTo shard how r)
+makes_as shard a d first how so (Ok e) went =
+    going_so shard a d (MakesTo shard first (Ok e)) (MakesTo shard how (Ok e)) went (λ list start es now bt h. so e list start es now h)
+makes_as shard a d first how so (Err fault) went = went

@@ -1,6 +1,5 @@
 -- A client polled, where a command is open and where none is.
 use Rattle.std.proofs.Common.{◌≡◌, ℕ, ◌+◌, ◌<◌, ◌≤◌, inl, inr, Option, Some, None, Bool, true, false, Ok, Err, List, refl, sym, ap, subst, ◌∙◌, arith}
-use Rattle.std.specs.Prelude.{IsSome, is_some}
 use Rattle.update_core.specs.declared.updates.Update.{Update}
 use Rattle.store_core.specs.declared.shards.ShardId.{ShardId}
 use Rattle.store_core.specs.declared.entries.Entry.{Entry}
@@ -17,16 +16,7 @@ use Rattle.step_run.specs.declared.stepping.Stepped.{Stepped}
 use Rattle.step_run.specs.Clients.{Fits}
 use Rattle.step_run.specs.Faults.{FailedBy}
 use Rattle.step_run.specs.Polls.{PollsTo, said_of}
-use Rattle.step_run.specs.Stepping.{Steps, StepsTo}
-
--- whether a command is open
-pub open_if : {X : Type 0} (asked : Option X) → is_some asked ≡ true → IsSome asked
-open_if None is = let bad : false ≡ true = is in cc
-open_if (Some x) is = tt
-
-pub closed_if : {X : Type 0} (asked : Option X) → is_some asked ≡ false → IsSome asked → ⊥
-closed_if None is h = h
-closed_if (Some x) is h = let bad : true ≡ false = is in cc
+use Rattle.step_run.specs.Stepping.{Steps, StepsTo, WithinWhere}
 
 module _ {M A : Type 0} (W : Words M A) (says : A → Option Saying) (shard : ShardId) (client polls : ℕ) (m : M) where
   pub idles : (a : Option History) (s : Stepped Saying) → (W.IsOpen m → ⊥) → s.faults ≡ 0 → s.answer ≡ None →
@@ -55,6 +45,7 @@ module _ {M A : Type 0} (W : Words M A) (says : A → Option Saying) (shard : Sh
 
   pub fits_idle : (asked : ℕ) (a : Option History) → Fits W shard client asked a m → Fits W shard client (asked + polls) a m
   fits_idle asked a f = record {
+    cost = f.cost;
     shard_is = f.shard_is;
     sound = f.sound;
     follows = f.follows;
@@ -62,8 +53,9 @@ module _ {M A : Type 0} (W : Words M A) (says : A → Option Saying) (shard : Sh
   }
 
   pub fits_polled : (asked : ℕ) (a b : Option History) (new : M) → Fits W shard client asked a m → W.IsOpen m → shard_of W new ≡ shard_of W m →
-      W.IsSound new → FollowsWhere W client b new → W.calls_of new ≤ W.calls_of m + polls → Fits W shard client (asked + polls) b new
-  fits_polled asked a b new f is_open same sound follows calls = record {
+      W.IsSound new → FollowsWhere W client b new → (W.IsOpen new → WithinWhere W client b new) → W.calls_of new ≤ W.calls_of m + polls → Fits W shard client (asked + polls) b new
+  fits_polled asked a b new f is_open same sound follows cost calls = record {
+    cost = cost;
     shard_is = same ∙ f.shard_is;
     sound = sound;
     follows = follows;

@@ -23,13 +23,14 @@ use Rattle.load_core.specs.declared.polls.Poll.{Poll}
 use Rattle.load_core.specs.declared.polls.Poll.TheVariants as polls
 use Rattle.load_core.specs.Fronts.{Backwards, WhereLawful}
 use Rattle.load_core.specs.Trying.{more}
-use Rattle.machine_core.specs.Machines.{Ending, IsReading, LegalPoll, Words, shard_of}
-use Rattle.machine_core.specs.Polling.{Calls, LegalWhere, Polled, Unpolled, Wanted}
+use Rattle.machine_core.specs.Machines.{CostPoll, Ending, IsReading, LegalPoll, Words, shard_of}
+use Rattle.machine_core.specs.Polling.{Calls, CostGoesOn, LegalWhere, Polled, Unpolled, Wanted}
+use Rattle.machine_core.proofs.Fronts.{both_where}
 use Rattle.driving.specs.Drives.{Scanned}
 use Rattle.driving.specs.Goings.{Goes, GrowsBy, others_until}
 use Rattle.driving.proofs.Driving.{OneCall, shown_scan}
 use Rattle.driving.proofs.GoingLaws.{adds_go, failed_outcome, going_so, going_where, grows_more, grows_none, grows_one, others_kept, more_going, no_going, sole_adds, sole_grows}
-use Rattle.step_run.specs.Stepping.{EndsAnswered, Made, Steps}
+use Rattle.step_run.specs.Stepping.{EndsAnswered, Made, Steps, WithinWhere}
 
 -- ---- counts
 
@@ -67,20 +68,24 @@ pub record SoFar {M A : Type 0} (W : Words M A) (client : ℕ) (first m : M) (n 
   pub same : W.kept m ≡ W.kept first
   pub is_open : W.IsOpen m
   pub counted : W.calls_of m ≡ W.calls_of first + n
+  pub cost : WithinWhere W client b m
 
 -- what one poll says, of the client that polls: nobody else has called
 pub record Turned {M A : Type 0} (W : Words M A) (client : ℕ) (m v : M) (poll : Poll A) (b d : Option History) : Type 0 where
   pub polled : Polled W client b d m v poll
   pub legal : LegalWhere W client d m v poll
+  pub cost : CostGoesOn W client b d m v poll
   pub sole : others_until d client ≡ others_until b client
 
 -- the same, where the poll, the client and what the port keeps are known under other names
 pub turned : {M A : Type 0} → (W : Words M A) → {w v : M} → {p q : Poll A} → {b d : Option History} → {m n client : ℕ} → p ≡ q → m ≡ n →
-    n ≡ client → others_until d m ≡ others_until b n → Polled W n b d w v p → LegalWhere W n d w v p → Turned W client w v q b d
-turned {A = A} W {w = w} {v = v} {p = p} {q = q} {b = b} {d = d} {m = m} {n = n} {client = client} is same own kept polled legal =
+    n ≡ client → others_until d m ≡ others_until b n → Polled W n b d w v p → LegalWhere W n d w v p → CostGoesOn W n b d w v p →
+    Turned W client w v q b d
+turned {A = A} W {w = w} {v = v} {p = p} {q = q} {b = b} {d = d} {m = m} {n = n} {client = client} is same own kept polled legal cost =
     subst (λ (x : Poll A). Turned W client w v x b d) is (record {
       polled = subst (λ (k : ℕ). Polled W k b d w v p) own polled;
       legal = subst (λ (k : ℕ). LegalWhere W k d w v p) own legal;
+      cost = subst (λ (k : ℕ). CostGoesOn W k b d w v p) own cost;
       sole = others_kept b d m n client kept same own;
     })
 
@@ -101,13 +106,14 @@ module _ {M A : Type 0} (W : Words M A) (client : ℕ) (first : M) where
   nothing_made : (start : Stored) (es : List Entry) → Made W client (W.kept first) 0 0 start es es
   nothing_made start es = record { more = []; split = refl; of_client = tt; as_many = refl; failures = refl; did = tt }
 
-  pub so_far_start : (a : Option History) → W.IsOpen first → SoFar W client first first 0 0 a a
-  so_far_start a is = record {
+  pub so_far_start : (a : Option History) → W.IsOpen first → WithinWhere W client a first → SoFar W client first first 0 0 a a
+  so_far_start a is cost = record {
     made = no_going Own a (Far 0 0) (λ list start es. nothing_made start es);
     by = grows_none client a;
     same = refl;
     is_open = is;
     counted = omega arith;
+    cost = cost;
   }
 
   next_made : (poll : Poll A) (n failed one : ℕ) (start : Stored) (es mid now : List Entry) → Made W client (W.kept first) n failed start es mid →
@@ -166,8 +172,9 @@ module _ {M A : Type 0} (W : Words M A) (client : ℕ) (first : M) where
 
   -- a poll after which the command goes on
   goes_on : (m v : M) (poll : Poll A) (n failed one : ℕ) (a b d : Option History) → W.calls_of m < most → SoFar W client first m n failed a b →
-      OwnCall m v poll one b d → (W.kept v ≡ W.kept m) × W.IsOpen v → SoFar W client first v (n + 1) (failed + one) a d
-  goes_on m v poll n failed one a b d few so_far k stays =
+      OwnCall m v poll one b d → (W.kept v ≡ W.kept m) × W.IsOpen v → WhereLawful (shard_of W m) d (Backwards (W.CostAt W.least client v)) →
+      SoFar W client first v (n + 1) (failed + one) a d
+  goes_on m v poll n failed one a b d few so_far k stays cost =
       let counted = count (W.calls_of m) (W.calls_of v) k.calls few in
       let before = so_far.counted in
       record {
@@ -177,6 +184,7 @@ module _ {M A : Type 0} (W : Words M A) (client : ℕ) (first : M) where
         same = stays.0 ∙ so_far.same;
         is_open = stays.1;
         counted = omega (arith, counted, before);
+        cost = subst (λ (s : ShardId). WhereLawful s d (Backwards (W.CostAt W.least client v))) (sym (ap (λ (q : W.Kept). W.shard q) stays.0)) cost;
       }
 
   pub polls_more : (m v : M) (n failed : ℕ) (a b d : Option History) → W.calls_of m < most → SoFar W client first m n failed a b →
@@ -185,31 +193,37 @@ module _ {M A : Type 0} (W : Words M A) (client : ℕ) (first : M) where
       let c = t.polled in
       let k = own_call m v polls.More 0 b d so_far.same c (answered_none c.call c.reply (c.answered refl)) t.sole in
       let same : failed + 0 ≡ failed = omega arith in
-      subst (λ (f : ℕ). SoFar W client first v (n + 1) f a d) same (goes_on m v polls.More n failed 0 a b d few so_far k (c.stays tt))
+      subst (λ (f : ℕ). SoFar W client first v (n + 1) f a d) same (goes_on m v polls.More n failed 0 a b d few so_far k (c.stays tt)
+      (t.cost W.least (omega arith) so_far.cost))
 
   pub polls_fault : (m v : M) (n failed : ℕ) (a b d : Option History) → W.calls_of m < most → SoFar W client first m n failed a b →
       Turned W client m v polls.Fault b d → SoFar W client first v (n + 1) (failed + 1) a d
   polls_fault m v n failed a b d few so_far t =
       let c = t.polled in
       let k = own_call m v polls.Fault 1 b d so_far.same c (failed_one c.call c.reply (c.failed refl)) t.sole in
-      goes_on m v polls.Fault n failed 1 a b d few so_far k (c.stays tt)
+      goes_on m v polls.Fault n failed 1 a b d few so_far k (c.stays tt) (t.cost W.least (omega arith) so_far.cost)
 
   -- what the last poll's call has come to, and what is legal then
-  record LastCall (v : M) (poll : Poll A) (n failed one : ℕ) (list : List Update) (start : Stored) (es now : List Entry) : Type 0 where
+  record LastCall (m v : M) (poll : Poll A) (n failed one : ℕ) (list : List Update) (start : Stored) (es now : List Entry) : Type 0 where
     pub before : List Entry
     pub made : Made W client (W.kept first) n failed start es before
     pub call : OneCall client (Did poll one) start before now
     pub legal : LegalPoll W client (W.kept first) (W.calls_of v) poll start now list
+    pub cost : CostPoll W W.least client m v poll start now list
 
   last_call : (m v : M) (poll : Poll A) (n failed one : ℕ) (a b d : Option History) → SoFar W client first m n failed a b →
-      OwnCall m v poll one b d → LegalWhere W client d m v poll → Goes Own a d (LastCall v poll n failed one)
-  last_call m v poll n failed one a b d so_far k legal =
+      OwnCall m v poll one b d → LegalWhere W client d m v poll → CostGoesOn W client b d m v poll → Goes Own a d (LastCall m v poll n failed one)
+  last_call m v poll n failed one a b d so_far k legal cost =
       let P = LegalPoll W client (W.kept first) (W.calls_of v) poll in
+      let Q = CostPoll W W.least client m v poll in
+      let within : WhereLawful Own d (Backwards Q) =
+      subst (λ (s : ShardId). WhereLawful s d (Backwards Q)) (same_shard m so_far.same) (cost W.least (omega arith) so_far.cost) in
       let law : WhereLawful Own d (Backwards P) =
       subst (λ (q : W.Kept). WhereLawful (W.shard q) d (Backwards (LegalPoll W client q (W.calls_of v) poll))) so_far.same legal in
-      more_going Own a b d (Far n failed) (λ list start es now. One poll one list start es now × P start now list) (LastCall v poll n failed one)
-      so_far.made (going_where Own b d (One poll one) P k.come law)
-      (λ list start es mid now b1 b2 g c. record { before = mid; made = g; call = c.0; legal = c.1 })
+      let both : Stored → List Entry → List Update → Type 0 = λ start es list. P start es list × Q start es list in
+      more_going Own a b d (Far n failed) (λ list start es now. One poll one list start es now × both start now list) (LastCall m v poll n failed one)
+      so_far.made (going_where Own b d (One poll one) both k.come (both_where Own d P Q law within))
+      (λ list start es mid now b1 b2 g c. record { before = mid; made = g; call = c.0; legal = c.1.0; cost = c.1.1 })
 
   -- a command that has ended
   pub polls_done : EndsAnswered W → (m v : M) (answer : A) (wanted n failed : ℕ) (a b d : Option History) → n + 1 ≤ wanted →
@@ -226,13 +240,13 @@ module _ {M A : Type 0} (W : Words M A) (client : ℕ) (first : M) where
       let none : failed + 0 ≡ failed = omega arith in
       let all : W.calls_of v ≡ W.calls_of first + (n + 1) = omega (arith, counted, before) in
       let over = subst (λ (q : W.Kept). W.Ends q answer v) so_far.same (c.ended answer refl) in (
-        going_so Own a d (LastCall v (polls.Done answer) n failed 0) (Steps W client wanted first v (Some answer) failed)
-            (last_call m v (polls.Done answer) n failed 0 a b d so_far k t.legal) (λ list start es now bt x. record {
+        going_so Own a d (LastCall m v (polls.Done answer) n failed 0) (Steps W client wanted first v (Some answer) failed)
+            (last_call m v (polls.Done answer) n failed 0 a b d so_far k t.legal t.cost) (λ list start es now bt x. record {
               made = n + 1;
               calls = subst (λ (f : ℕ). Made W client (W.kept first) (n + 1) f start es now) none
                   (next_made (polls.Done answer) n failed 0 start es x.before now x.made x.call);
               counted = all;
-              leaves = (within, over, x.legal below);
+              leaves = (within, over, x.legal below, record { before = m; same = so_far.same; over = x.cost });
             }),
         grows_more client a b d so_far.by k.by,
         all,
@@ -242,8 +256,11 @@ module _ {M A : Type 0} (W : Words M A) (client : ℕ) (first : M) where
   pub polls_end : (m : M) (wanted n failed : ℕ) (a b : Option History) → n ≡ wanted → SoFar W client first m n failed a b →
       Goes Own a b (Steps W client wanted first m None failed)
   polls_end m wanted n failed a b all so_far =
-      going_so Own a b (Far n failed) (Steps W client wanted first m None failed) so_far.made
-      (λ list start es now bt x. record { made = n; calls = x; counted = so_far.counted; leaves = (all, so_far.same, so_far.is_open) })
+      let P = W.CostAt W.least client m in
+      let within : WhereLawful Own b (Backwards P) = subst (λ (s : ShardId). WhereLawful s b (Backwards P)) (same_shard m so_far.same) so_far.cost in
+      going_so Own a b (λ list start es now. Far n failed list start es now × P start now list) (Steps W client wanted first m None failed)
+      (going_where Own a b (Far n failed) P so_far.made within)
+      (λ list start es now bt x. record { made = n; calls = x.0; counted = so_far.counted; leaves = (all, so_far.same, so_far.is_open, x.1) })
 
   -- damage is never found where the history is lawful
   pub polls_damaged : (m v : M) (damage : Damage) (n failed : ℕ) (a b d : Option History) → SoFar W client first m n failed a b →
@@ -272,8 +289,8 @@ module _ {M A : Type 0} (W : Words M A) (client : ℕ) (first : M) where
       let below : W.calls_of v < most = omega (arith, counted, few) in
       let one : W.calls_of m + 1 ≡ suc (W.calls_of m) = omega arith in
       let Last = λ (n : ℕ) (fs : List Entry) (start : Stored). AtLastScan Own (AtLast start Own (λ n s. n ≡ most)) (places client n fs) in
-      going_so Own a d (LastCall v polls.Spent n failed 0) (λ list start es now. Scanned Own (λ n s. n ≡ most) start es now)
-      (last_call m v polls.Spent n failed 0 a b d so_far k t.legal) (λ list start es now bt x.
+      going_so Own a d (LastCall m v polls.Spent n failed 0) (λ list start es now. Scanned Own (λ n s. n ≡ most) start es now)
+      (last_call m v polls.Spent n failed 0 a b d so_far k t.legal t.cost) (λ list start es now bt x.
       let there = subst (λ (n : ℕ). Last n now start) (counted ∙ one) (x.legal below) in
       let e = x.call.entry in
       let r = reply (replay_back start x.before) e in

@@ -12,13 +12,16 @@ use Rattle.maint_client.specs.Expiring as expire
 use Rattle.step_run.specs.declared.clients.Client.{Client}
 use Rattle.step_run.specs.declared.clients.Client.TheVariants as clients
 use Rattle.step_run.specs.declared.scenes.Scene.{Scene}
+use Rattle.step_run.specs.Stepping.{WithinWhere}
 
--- A machine of this shard that follows from its client's own entries; its open command has made no more calls than polls were asked for.
+-- A machine of this shard that follows from its client's own entries. Its open command has made no more calls than polls were asked for,
+-- and keeps to its bound.
 pub record Fits {M A : Type 0} (W : Words M A) (shard : ShardId) (client polls : ℕ) (front : Option History) (m : M) : Type 0 where
   pub shard_is : shard_of W m ≡ shard
   pub sound : W.IsSound m
   pub follows : FollowsWhere W client front m
   pub few : W.IsOpen m → W.calls_of m ≤ polls
+  pub cost : W.IsOpen m → WithinWhere W client front m
 
 -- a client's machine holds what it holds besides any history
 abbrev pub IsSound : Client → Type 0

@@ -7,11 +7,12 @@ use Rattle.store_core.specs.declared.replies.Reply.{Reply}
 use Rattle.store_core.specs.declared.replies.Reply.TheVariants as replies
 use Rattle.store_core.specs.declared.entries.Entry.{Entry}
 use Rattle.store_core.specs.Stores.{Stored}
-use Rattle.store_core.specs.Histories.{faults_of, reply}
+use Rattle.store_core.specs.Histories.{History, faults_of, reply}
 use Rattle.store_core.specs.Newest.{replay_back}
+use Rattle.load_core.specs.Fronts.{Backwards, WhereLawful}
 use Rattle.load_core.specs.declared.polls.Poll.{Poll}
 use Rattle.load_core.specs.declared.polls.Poll.TheVariants as polls
-use Rattle.machine_core.specs.Machines.{Words, shard_of}
+use Rattle.machine_core.specs.Machines.{Ending, Keeps, Words, shard_of}
 use Rattle.step_run.specs.declared.step_faults.StepFault.{StepFault}
 use Rattle.step_run.specs.declared.stepping.Stepped.{Stepped}
 use Rattle.step_run.specs.Faults.{FailedBy}
@@ -36,11 +37,22 @@ pub record Made {M A : Type 0} (W : Words M A) (client : ℕ) (k : W.Kept) (made
   pub failures : failed ≡ failed_among more
   pub did : DidEach W k start more es
 
--- with an answer the command has ended, and the answer is legal; without one it is the same command, open, and all polls were made
+-- a command that has ended made no more calls than its bound
+pub record EndsWithin {M A : Type 0} (W : Words M A) (client : ℕ) (k : W.Kept) (new : M) (start : Stored) (now : List Entry)
+    (list : List Update) : Type 0 where
+  -- the machine before its last call
+  pub before : M
+  pub same : W.kept before ≡ k
+  pub over : W.CostOver W.least client before new start now list
+
+-- With an answer the command has ended, the answer is legal, and the calls were within its bound. Without one it is the same command,
+-- open, all polls were made, and there is room for more calls in its bound.
 abbrev pub Leaves : {M A : Type 0} → (W : Words M A) → ℕ → ℕ → ℕ → M → M → Option A → Stored → List Entry → List Update → Type 0
-Leaves W client polls made m new None start now list = (made ≡ polls) × (W.kept new ≡ W.kept m) × W.IsOpen new
+Leaves W client polls made m new None start now list =
+    (made ≡ polls) × (W.kept new ≡ W.kept m) × W.IsOpen new × W.CostAt W.least client new start now list
 Leaves W client polls made m new (Some answer) start now list =
     (made ≤ polls) × W.Ends (W.kept m) answer new × W.Legal client (W.kept m) (W.calls_of new) answer start now list
+    × EndsWithin W client (W.kept m) new start now list
 
 -- So many polls of an open command are one call each, and they are fewer only where the command has ended.
 pub record Steps {M A : Type 0} (W : Words M A) (client polls : ℕ) (m new : M) (answer : Option A) (failed : ℕ) (list : List Update)
@@ -59,3 +71,18 @@ StepsTo W client most_polls m new (Err fault) list start es now = FailedBy (shar
 -- only a call that was answered ends a command
 abbrev pub EndsAnswered : {M A : Type 0} → Words M A → Type 0
 EndsAnswered {A = A} W = (k : W.Kept) (call : Call) (r : Reply) (answer : A) → W.Effect k call r (polls.Done answer) → r ≡ replies.Failed → ⊥
+
+-- an answer leaves no command
+abbrev pub EndsIdle : {M A : Type 0} → Words M A → Type 0
+EndsIdle {A = A} W = (k : W.Kept) (answer : A) (m : _) → W.Ends k answer m → ¬ W.IsOpen m
+
+-- what holds of each machine that is polled line by line
+pub record Laws {M A : Type 0} (W : Words M A) : Type 0 where
+  pub keeps : Keeps W
+  pub ending : Ending W
+  pub answered : EndsAnswered W
+  pub idle : EndsIdle W
+
+-- over a front that is told, lawful and from a start that stands for a list, the calls of the open command are within its bound
+abbrev pub WithinWhere : {M A : Type 0} → Words M A → ℕ → Option History → M → Type 0
+WithinWhere W client front m = WhereLawful (shard_of W m) front (Backwards (W.CostAt W.least client m))

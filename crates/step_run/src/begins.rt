@@ -25,7 +25,8 @@ use write_client::Writer;
 
 // What is said where a command is begun or isn't.
 fn says_begun(begun: Result<(), BeginFault>) -> Result<Option<Saying>, StepFault>
-    ensures { result ≡ says_begun begun }
+    ensures said { result ≡ says_begun begun }
+    ensures memory { FailsForMemory result }
 {
     match begun {
         Ok(()) => Ok(None),

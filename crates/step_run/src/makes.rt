@@ -7,9 +7,9 @@ ghost use Rattle.driving.specs.StoreTurns.{StoreFailed};
 ghost use Rattle.step_run.specs.Clients.{ClientFits};
 ghost use Rattle.step_run.specs.Makes.{CollectorMade, CompactorOpens, ExpirerMade, Makes, MakesTo, ReaderOpens, WriterOpens};
 
-use crate::answers::{merge_says, read_says, write_says};
 use crate::clients::Client;
 use crate::entered::Entered;
+use crate::speakers::Speaker;
 use crate::step_faults::StepFault;
 use driving::{SolePort, drive};
 use maint_client::{Collector, Expirer};
@@ -36,7 +36,7 @@ fn open_writer<S: Store>(
     let answer = drive(alloc, &mut writer, port)?;
     Ok(Entered {
         client: Client::Writer(writer),
-        said: write_says(answer),
+        said: Writer::saying(answer),
     })
 }
 
@@ -59,7 +59,7 @@ fn open_reader<S: Store>(
     let answer = drive(alloc, &mut reader, port)?;
     Ok(Entered {
         client: Client::Reader(reader),
-        said: read_says(answer),
+        said: Reader::saying(answer),
     })
 }
 
@@ -82,7 +82,7 @@ fn open_compactor<S: Store>(
     let answer = drive(alloc, &mut compactor, port)?;
     Ok(Entered {
         client: Client::Compactor(compactor),
-        said: merge_says(answer),
+        said: Compactor::saying(answer),
     })
 }
 
@@ -90,8 +90,9 @@ fn collector(shard: ShardId) -> Entered
     ensures made { (es : List Entry) → CollectorMade shard result es es }
     ensures fits { (client polls : ℕ) (front : Option History) → ClientFits shard client polls front result.client }
 {
+    let collector = Collector::new(shard);
     Entered {
-        client: Client::Collector(Collector::new(shard)),
+        client: Client::Collector(collector),
         said: None,
     }
 }
@@ -100,8 +101,9 @@ fn expirer(shard: ShardId) -> Entered
     ensures made { (es : List Entry) → ExpirerMade shard result es es }
     ensures fits { (client polls : ℕ) (front : Option History) → ClientFits shard client polls front result.client }
 {
+    let expirer = Expirer::new(shard);
     Entered {
-        client: Client::Expirer(Expirer::new(shard)),
+        client: Client::Expirer(expirer),
         said: None,
     }
 }

@@ -1,11 +1,10 @@
 // Clients polled.
-ghost use Rattle.std.specs.Prelude.{◌≡◌, ◌≢◌, ◌+◌, ◌<◌, ◌≤◌, None, Err, OnOk};
+ghost use Rattle.std.specs.Prelude.{◌≡◌, ◌≢◌, ◌+◌, ◌<◌, ◌≤◌, Err, OnOk};
 ghost use Rattle.state_core.specs.VersionReading.{most};
-ghost use Rattle.machine_core.specs.Machines.{Ending, Keeps};
 ghost use Rattle.driving.specs.Goings.{Goes, GrowsBy};
 ghost use Rattle.step_run.specs.Clients.{ClientFits, Fits};
 ghost use Rattle.step_run.specs.Polls.{ClientPollsTo, PollsTo, said_of};
-ghost use Rattle.step_run.specs.Stepping.{EndsAnswered};
+ghost use Rattle.step_run.specs.Stepping.{Laws};
 
 use crate::clients::Client;
 use crate::sayings::Saying;
@@ -15,17 +14,6 @@ use crate::stepping::{Stepped, step};
 use driving::SolePort;
 use std::alloc::Global;
 use store_core::{ShardId, Store};
-
-// Nothing was done.
-fn idle() -> Stepped<Saying>
-    ensures faults { result.faults ≡ 0 }
-    ensures silent { result.answer ≡ None }
-{
-    Stepped {
-        faults: 0,
-        answer: None,
-    }
-}
 
 // What an answer says, if one came.
 fn said<M: Speaker>(answer: Option<M::Answer>) -> Option<Saying>
@@ -43,9 +31,7 @@ fn step_open<M: Speaker, S: Store>(
     asked: u64,
     polls: u64,
 ) -> Result<Stepped<Saying>, StepFault>
-    requires keeps { Keeps M.words }
-    requires ending { Ending M.words }
-    requires answered { EndsAnswered M.words }
+    requires laws { Laws M.words }
     requires fits { Fits M.words shard port.old.client asked (S.history port.old.store) machine.old }
     requires few { asked + polls < most }
     ensures told { Goes shard (S.history port.old.store) (S.history port.new.store)
@@ -57,7 +43,10 @@ fn step_open<M: Speaker, S: Store>(
     ensures later { S.faults port.old.store ≤ S.faults port.new.store }
 {
     if !machine.is_busy() {
-        return Ok(idle());
+        return Ok(Stepped {
+            faults: 0,
+            answer: None,
+        });
     }
     let stepped = step(alloc, machine, port, polls)?;
     Ok(Stepped {
@@ -68,6 +57,7 @@ fn step_open<M: Speaker, S: Store>(
 
 /// Polls the open command of a client so many times, or until it ends. Without one nothing is done. No command has made more calls
 /// than `asked` before.
+#[tactic(auto, using(crate::proofs::KindLaws::writes, crate::proofs::KindLaws::reads, crate::proofs::KindLaws::merges, crate::proofs::KindLaws::collects, crate::proofs::KindLaws::expires))]
 pub(crate) fn step_client<S: Store>(
     alloc: Global,
     client: &mut Client,

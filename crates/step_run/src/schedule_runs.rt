@@ -45,6 +45,7 @@ fn answer_text<Si: Sink, S: Store>(
 /// Reads a schedule, executes it over the shard and writes what its lines bring, all but a last line. Its clients are numbered from 0
 /// in the order of their making; a Head is asked as the next one. At the end nothing is closed. See docs/DEFINITIONS.md, "Schedules
 /// executed".
+#[tactic(auto, using(crate::proofs::TextRead::rests_lawful))]
 pub fn steps<So: Source, Si: Sink, S: Store>(
     alloc: Global,
     source: &mut So,

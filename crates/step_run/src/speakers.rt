@@ -3,7 +3,6 @@ ghost use Rattle.std.specs.Prelude.{◌≡◌, true, false, Option, is_some};
 ghost use Rattle.step_run.specs.declared.sayings.Saying.{Saying as Said};
 ghost use Rattle.step_run.specs.Sayings.{collect_says, expire_says, merge_says, read_says, write_says};
 
-use crate::answers::{collect_says, expire_says, merge_says, read_says, write_says};
 use crate::sayings::Saying;
 use history_core::{CollectAnswer, ExpireAnswer, MergeAnswer, ReadAnswer, WriteAnswer};
 use machine_core::Machine;
@@ -36,7 +35,14 @@ impl Speaker for Writer {
     }
 
     fn saying(answer: WriteAnswer) -> Option<Saying> {
-        write_says(answer)
+        match answer {
+            WriteAnswer::Opened { .. } => None,
+            WriteAnswer::MembersFull { .. } => Some(Saying::Full),
+            WriteAnswer::Ok => Some(Saying::Accepted),
+            WriteAnswer::Mismatch { current } => Some(Saying::Mismatch { upper: current }),
+            WriteAnswer::Heavy { weight } => Some(Saying::Heavy { weight }),
+            WriteAnswer::Closed { .. } => Some(Saying::Accepted),
+        }
     }
 }
 
@@ -48,7 +54,24 @@ impl Speaker for Reader {
     }
 
     fn saying(answer: ReadAnswer) -> Option<Saying> {
-        read_says(answer)
+        match answer {
+            ReadAnswer::Opened { .. } => None,
+            ReadAnswer::MembersFull { .. } => Some(Saying::Full),
+            ReadAnswer::Rows(rows) => Some(Saying::Rows(rows)),
+            ReadAnswer::Early { since } => Some(Saying::Early { since }),
+            ReadAnswer::Late { upper } => Some(Saying::Late { upper }),
+            ReadAnswer::Step { to, rows, .. } => Some(Saying::Step {
+                updates: rows,
+                upper: to,
+            }),
+            ReadAnswer::Quiet { upper } => Some(Saying::Quiet { upper }),
+            ReadAnswer::Ended => Some(Saying::Ended),
+            ReadAnswer::Advanced { .. } => Some(Saying::Accepted),
+            ReadAnswer::Back { since } => Some(Saying::Back { since }),
+            ReadAnswer::Renewed { .. } => Some(Saying::Accepted),
+            ReadAnswer::Closed { .. } => Some(Saying::Accepted),
+            ReadAnswer::Expired { version } => Some(Saying::Expired { version }),
+        }
     }
 }
 
@@ -60,7 +83,16 @@ impl Speaker for Compactor {
     }
 
     fn saying(answer: MergeAnswer) -> Option<Saying> {
-        merge_says(answer)
+        match answer {
+            MergeAnswer::Opened { .. } => None,
+            MergeAnswer::MembersFull { .. } => Some(Saying::Full),
+            MergeAnswer::Merged { version } => Some(Saying::Merged { version }),
+            MergeAnswer::NothingDue { version } => Some(Saying::Nothing { version }),
+            MergeAnswer::Superseded { version } => Some(Saying::Superseded { version }),
+            MergeAnswer::Renewed { .. } => Some(Saying::Accepted),
+            MergeAnswer::Closed { .. } => Some(Saying::Accepted),
+            MergeAnswer::Expired { version } => Some(Saying::Expired { version }),
+        }
     }
 }
 
@@ -72,7 +104,11 @@ impl Speaker for Collector {
     }
 
     fn saying(answer: CollectAnswer) -> Option<Saying> {
-        collect_says(answer)
+        match answer {
+            CollectAnswer::Collected { floor, deleted } => {
+                Some(Saying::Collected { floor, deleted })
+            }
+        }
     }
 }
 
@@ -85,6 +121,9 @@ impl Speaker for Tryer<Expiry> {
     }
 
     fn saying(answer: ExpireAnswer) -> Option<Saying> {
-        expire_says(answer)
+        match answer {
+            ExpireAnswer::Removed { members } => Some(Saying::Removed(members)),
+            ExpireAnswer::NoneDue { version } => Some(Saying::NoneDue { version }),
+        }
     }
 }

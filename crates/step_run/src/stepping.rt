@@ -4,7 +4,7 @@ ghost use Rattle.state_core.specs.VersionReading.{most};
 ghost use Rattle.machine_core.specs.Machines.{Ending, Keeps, shard_of};
 ghost use Rattle.machine_core.specs.Polling.{FollowsWhere};
 ghost use Rattle.driving.specs.Goings.{Goes, GrowsBy};
-ghost use Rattle.step_run.specs.Stepping.{EndsAnswered, StepsTo};
+ghost use Rattle.step_run.specs.Stepping.{EndsAnswered, EndsIdle, StepsTo, WithinWhere};
 
 use crate::step_faults::StepFault;
 use driving::SolePort;
@@ -29,9 +29,11 @@ pub fn step<M: Machine, S: Store>(
     requires keeps { Keeps M.words }
     requires ending { Ending M.words }
     requires answered { EndsAnswered M.words }
+    requires idle { EndsIdle M.words }
     requires open { M.words.IsOpen machine.old }
     requires sound { M.words.IsSound machine.old }
     requires follows { FollowsWhere M.words port.old.client (S.history port.old.store) machine.old }
+    requires cost { WithinWhere M.words port.old.client (S.history port.old.store) machine.old }
     requires few { M.words.calls_of machine.old + polls < most }
     ensures told { Goes (shard_of M.words machine.old) (S.history port.old.store) (S.history port.new.store)
         (StepsTo M.words port.old.client polls machine.old machine.new result) }
@@ -39,6 +41,7 @@ pub fn step<M: Machine, S: Store>(
     ensures shard { OnOk result (shard_of M.words machine.new ≡ shard_of M.words machine.old) }
     ensures sound { M.words.IsSound machine.new }
     ensures follows { OnOk result (FollowsWhere M.words port.old.client (S.history port.new.store) machine.new) }
+    ensures cost { OnOk result (M.words.IsOpen machine.new → WithinWhere M.words port.old.client (S.history port.new.store) machine.new) }
     ensures calls { OnOk result (M.words.calls_of machine.new ≤ M.words.calls_of machine.old + polls) }
     ensures fault { result ≢ Err StepFault.Store }
     ensures sink { result ≢ Err StepFault.Sink }

@@ -15,7 +15,8 @@ use Rattle.merge_client.proofs.Machining.{ending, keeps}
 use Rattle.step_run.specs.declared.step_faults.StepFault.{StepFault}
 use Rattle.step_run.specs.Makes.{MakesTo, CompactorOpens}
 use Rattle.step_run.proofs.Costs.{opened_cost}
-use Rattle.step_run.proofs.Opening.{open_answers, open_fails, over_closed}
+use Rattle.step_run.proofs.Opening.{open_answers, open_fails}
+use Rattle.step_run.proofs.Answering.{over_closed}
 use Rattle.step_run.proofs.makes.open_compactor.Goals as goal
 
 pub drive-requires-clause-keeps : goal.drive-requires-clause-keeps
@@ -62,7 +63,7 @@ returns-clause-told g c =
       answer = answer;
       answered = x;
       ended = over;
-      said = c.merge_says.ensures;
+      said = c.saying.ensures;
     }) told
 
 pub returns-clause-fits : goal.returns-clause-fits
@@ -76,4 +77,5 @@ returns-clause-fits g c = λ polls.
       sound = c.in_ok-answer.ensures.sound;
       follows = c.in_ok-answer.ensures.follows;
       few = λ is. absurd (over_closed new.asked over.asked is);
+      cost = λ is. absurd (over_closed new.asked over.asked is);
     }

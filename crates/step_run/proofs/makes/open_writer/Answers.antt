@@ -10,7 +10,8 @@ use Rattle.write_client.specs.Writing as writers
 use Rattle.write_client.proofs.Machining.{ending, keeps}
 use Rattle.step_run.specs.declared.step_faults.StepFault.{StepFault}
 use Rattle.step_run.specs.Makes.{MakesTo, WriterOpens}
-use Rattle.step_run.proofs.Opening.{open_answers, open_fails, over_closed}
+use Rattle.step_run.proofs.Opening.{open_answers, open_fails}
+use Rattle.step_run.proofs.Answering.{over_closed}
 use Rattle.step_run.proofs.makes.open_writer.Goals as goal
 
 pub drive-requires-clause-keeps : goal.drive-requires-clause-keeps
@@ -46,7 +47,7 @@ returns-clause-told g c =
       answer = answer;
       answered = x;
       ended = over;
-      said = c.write_says.ensures;
+      said = c.saying.ensures;
     }) told
 
 pub returns-clause-fits : goal.returns-clause-fits
@@ -60,4 +61,5 @@ returns-clause-fits g c = λ polls.
       sound = c.in_ok-answer.ensures.sound;
       follows = c.in_ok-answer.ensures.follows;
       few = λ is. absurd (over_closed new.asked over.asked is);
+      cost = λ is. absurd (over_closed new.asked over.asked is);
     }

@@ -13,7 +13,7 @@ use Rattle.step_run.proofs.stepping.step.Goals.{in-Busy, in-Fault, in-More}
 
 pub loop-init : goal.loop-init
 loop-init g c = record {
-  so_far = so_far_start g.M.Machine.words c.args.port.now.client c.args.machine.now (g.S.Store.history c.args.port.now.store) c.requires.open;
+  so_far = so_far_start g.M.Machine.words c.args.port.now.client c.args.machine.now (g.S.Store.history c.args.port.now.store) c.requires.open c.requires.cost;
   sound = c.requires.sound;
   follows = c.requires.follows;
   failed = omega arith;
@@ -50,7 +50,7 @@ pub returns-in-Damaged-clause-told : goal.returns-in-Damaged-clause-told
 returns-in-Damaged-clause-told g c =
     let l = c.loop in
     let e = c.in_ok-poll.ensures in
-    let t = turned g.M.Machine.words c.in-Damaged.is e.client l.invariant.client e.kept e.polled e.legal in
+    let t = turned g.M.Machine.words c.in-Damaged.is e.client l.invariant.client e.kept e.polled e.legal e.cost in
     polls_damaged g.M.Machine.words _ _ _ _ _ _ _ _ _ _ l.invariant.so_far t
 
 pub returns-in-Spent-clause-told : goal.returns-in-Spent-clause-told
@@ -61,7 +61,7 @@ returns-in-Spent-clause-told g c =
     let counted = l.invariant.so_far.counted in
     let asked = c.requires.few in
     let few : W.calls_of l.machine + 1 < most = omega (arith, counted, asked, c.loop-test.true) in
-    let t = turned W c.in-Spent.is e.client l.invariant.client e.kept e.polled e.legal in
+    let t = turned W c.in-Spent.is e.client l.invariant.client e.kept e.polled e.legal e.cost in
     polls_spent W _ _ c.requires.ending _ _ _ _ _ _ _ few l.invariant.so_far t
 
 pub returns-in-Done-clause-told : goal.returns-in-Done-clause-told
@@ -73,7 +73,7 @@ returns-in-Done-clause-told g c =
     let asked = c.requires.few in
     let few : W.calls_of l.machine + 1 < most = omega (arith, counted, asked, c.loop-test.true) in
     let within : l.counter + 1 ≤ c.args.polls = omega (arith, c.loop-test.true) in
-    let t = turned W c.in-Done.is e.client l.invariant.client e.kept e.polled e.legal in
+    let t = turned W c.in-Done.is e.client l.invariant.client e.kept e.polled e.legal e.cost in
     (polls_done W _ _ c.requires.answered _ _ _ _ _ _ _ _ _ within few l.invariant.so_far t).0
 
 pub returns-in-Done-clause-by : goal.returns-in-Done-clause-by
@@ -85,7 +85,7 @@ returns-in-Done-clause-by g c =
     let asked = c.requires.few in
     let few : W.calls_of l.machine + 1 < most = omega (arith, counted, asked, c.loop-test.true) in
     let within : l.counter + 1 ≤ c.args.polls = omega (arith, c.loop-test.true) in
-    let t = turned W c.in-Done.is e.client l.invariant.client e.kept e.polled e.legal in
+    let t = turned W c.in-Done.is e.client l.invariant.client e.kept e.polled e.legal e.cost in
     (polls_done W _ _ c.requires.answered _ _ _ _ _ _ _ _ _ within few l.invariant.so_far t).1
 
 pub returns-clause-told : goal.returns-clause-told
@@ -116,7 +116,7 @@ loop-preserved g c =
           let missed : 0 < 0 = e.busy (ap Ok w.in-Busy.is) in
           absurd (omega (arith, missed))
       | in-More w ↦
-          let t = turned W w.in-More.is e.client l.invariant.client e.kept e.polled e.legal in
+          let t = turned W w.in-More.is e.client l.invariant.client e.kept e.polled e.legal e.cost in
           let same = w.faults-is in
           record {
             so_far = subst (λ (f : ℕ). SoFar W client first c.poll.new.machine (l.counter + 1) f a d) (sym same)
@@ -128,7 +128,7 @@ loop-preserved g c =
             calls = calls;
           }
       | in-Fault w ↦
-          let t = turned W w.in-Fault.is e.client l.invariant.client e.kept e.polled e.legal in
+          let t = turned W w.in-Fault.is e.client l.invariant.client e.kept e.polled e.legal e.cost in
           let same = w.faults-is in
           record {
             so_far = subst (λ (f : ℕ). SoFar W client first c.poll.new.machine (l.counter + 1) f a d) (sym same)
