@@ -6,3 +6,6 @@ pub mod Begins
 pub mod Polls
 pub mod Kinds
 pub mod Makes
+pub mod Lines
+pub mod Executing
+pub mod Endings
