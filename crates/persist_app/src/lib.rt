@@ -8,6 +8,7 @@ mod disk_statuses;
 mod ends;
 mod on_disk;
 mod plain;
+mod served;
 mod statuses;
 mod system_clocks;
 mod watched;
@@ -26,5 +27,7 @@ pub use system_clocks::SystemClock;
 mod deaf_stores;
 #[cfg(test)]
 mod disk_tests;
+#[cfg(test)]
+mod step_tests;
 #[cfg(test)]
 mod tests;
