@@ -38,7 +38,7 @@ module _ (words : List (List ℕ)) (ending : Option Ending) (told told_now : Opt
   pub completed : (taken_now : Option (List ℕ)) → ending ≡ Some endings.Complete → taken_now ≡ between →
       Serves words (λ shard. RunsPlainly shard told told_now left now taken taken_now)
       (λ shard. RunsSteps shard told told_now left now taken taken_now)
-  completed taken_now is same = elim performed_as (Some endings.Complete) is [
+  completed taken_now is same = elim (performed_as (Some endings.Complete) is) [
     | inl done ↦ inl (done.0, done.1, subst (λ (t : Option (List ℕ)). RunsPlainly done.0 told told_now left now taken t) (sym same) done.2)
     | inr done ↦ inr (done.0, done.1, subst (λ (t : Option (List ℕ)). RunsSteps done.0 told told_now left now taken t) (sym same) done.2)
   ]
@@ -47,7 +47,7 @@ module _ (words : List (List ℕ)) (ending : Option Ending) (told told_now : Opt
   pub line_refused : (taken_now : Option (List ℕ)) (number : ℕ) → ending ≡ Some (endings.BadLine number) →
       Gains between taken_now (line_fault_text number) →
       Serves words (λ shard. RefusesLine left taken taken_now) (λ shard. RefusesStep left taken taken_now)
-  line_refused taken_now number is written = elim performed_as (Some (endings.BadLine number)) is [
+  line_refused taken_now number is written = elim (performed_as (Some (endings.BadLine number)) is) [
     | inl stopped ↦ inl (stopped.0, stopped.1, record {
         text = stopped.2.0;
         had = stopped.2.1;
@@ -67,14 +67,14 @@ module _ (words : List (List ℕ)) (ending : Option Ending) (told told_now : Opt
   -- a read failed, and the last line is written
   pub input_failed : (taken_now : Option (List ℕ)) (text : List ℕ) → ending ≡ Some endings.InputFailed → Gains between taken_now text →
       HasCommand words × Rose reads reads_now × Gains taken taken_now text
-  input_failed taken_now text is written = elim performed_as (Some endings.InputFailed) is [
+  input_failed taken_now text is written = elim (performed_as (Some endings.InputFailed) is) [
     | inl stopped ↦ ((stopped.0, inl stopped.1), stopped.2.0, subst (λ (t : Option (List ℕ)). Gains t taken_now text) stopped.2.1 written)
     | inr stopped ↦ ((stopped.0, inr stopped.1), stopped.2.0, subst (λ (t : Option (List ℕ)). Gains t taken_now text) stopped.2.1 written)
   ]
 
   -- no schedule finds the shard full
   pub found_full : ending ≡ Some endings.MembersFull → RunsOn words (λ shard. ReadsFeed left now × FoundFull shard told told_now)
-  found_full is = elim performed_as (Some endings.MembersFull) is [
+  found_full is = elim (performed_as (Some endings.MembersFull) is) [
     | inl full ↦ full
     | inr none ↦ absurd none.2
   ]
@@ -172,7 +172,7 @@ extends_none (Some h) = (h, refl, record { start = refl; more = []; trail = sym 
 pub goes_extends : (shard : ShardId) (how : List Update → Stored → List Entry → List Entry → Type 0) (a b : Option History) →
     Goes shard a b how → Extends a b
 goes_extends shard how None b went = went
-goes_extends shard how (Some h) b went = (went.0, went.1, went.2.0)
+goes_extends shard how (Some h) b went = (went.0, went.1, went.2)
 
 -- where nothing was executed, the store is as it was
 pub spared : {S : Type 0} → (ending : Option Ending) (status : ℕ) (taken taken_now : Option (List ℕ)) (faults faults_now : ℕ)

@@ -1,7 +1,9 @@
 use Rattle.std.proofs.Common.{◌≡◌, map, string_bytes, ap, subst, List, Option, Some, None, ℕ}
 use Rattle.feed_text.specs.Streams.{Gains}
 use Rattle.plain_run.specs.declared.endings.Ending.TheVariants as endings
-use Rattle.persist_app.specs.Endings.{NoCommand, Performs, input_failed_text, words_text}
+use Rattle.plain_run.specs.Endings.{StaysLawful}
+use Rattle.store_core.specs.declared.shards.ShardId.{ShardId}
+use Rattle.persist_app.specs.Endings.{IsServed, NoCommand, Performs, input_failed_text, words_text}
 use Rattle.persist_app.proofs.Performed.{completed, found_full, input_failed, line_refused, performed_as, spared}
 use Rattle.persist_app.proofs.plain.persist_plain.Goals as goal
 
@@ -161,3 +163,9 @@ returns-clause-untouched g c =
     let out = c.perform-ending.new.out in
     spared c.perform-ending.result c.finish.result (taken out) (taken c.finish.new.out) (puts out) (puts c.finish.new.out) c.args.store
     c.perform-ending.new.port.store c.finish.ensures c.perform-ending.ensures.spares
+
+pub returns-clause-lawful : goal.returns-clause-lawful
+returns-clause-lawful g c =
+    subst (λ (ws : List (List ℕ)). (shard : ShardId) → IsServed ws shard →
+    StaysLawful shard (g.S.Store.history c.args.store) (g.S.Store.history c.perform-ending.new.port.store))
+    (ap (map string_bytes) c.deref.ensures.value) c.perform-ending.ensures.lawful
