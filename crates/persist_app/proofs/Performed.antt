@@ -48,20 +48,28 @@ module _ (words : List (List ℕ)) (ending : Option Ending) (told told_now : Opt
       Gains between taken_now (line_fault_text number) →
       Serves words (λ shard. RefusesLine left taken taken_now) (λ shard. RefusesStep left taken taken_now)
   line_refused taken_now number is written = elim (performed_as (Some (endings.BadLine number)) is) [
-    | inl stopped ↦ inl (stopped.0, stopped.1, record {
+    | inl stopped ↦ inl (
+      stopped.0,
+      stopped.1,
+      record {
         text = stopped.2.0;
         had = stopped.2.1;
         number = number;
         fault = stopped.2.2;
         written = subst (λ (t : Option (List ℕ)). Gains t taken_now (line_fault_text number)) stopped.2.3 written;
-      })
-    | inr stopped ↦ inr (stopped.0, stopped.1, record {
+      },
+    )
+    | inr stopped ↦ inr (
+      stopped.0,
+      stopped.1,
+      record {
         text = stopped.2.0;
         had = stopped.2.1;
         number = number;
         fault = stopped.2.2;
         written = subst (λ (t : Option (List ℕ)). Gains t taken_now (line_fault_text number)) stopped.2.3 written;
-      })
+      },
+    )
   ]
 
   -- a read failed, and the last line is written

@@ -6,7 +6,8 @@ use std::test::Fail;
 use store_core::{FaultAt, FaultList, MemStore};
 
 // Two appends that are merged, and a reader's lease that begins anew. An `@` stands for it.
-const MERGED: &str = "writer A\ncompactor C 1000\nreader R 1000\nbegin A append 0 5\n1 1 x\n.\nstep A 9\nbegin A append 5 10\n6 1 y\n.\nstep A 9\nbegin C merge\nstep C 9\nbegin R renew\nstep R 9\n";
+const MERGED: &str =
+    "writer A\ncompactor C 1000\nreader R 1000\nbegin A append 0 5\n1 1 x\n.\nstep A 9\nbegin A append 5 10\n6 1 y\n.\nstep A 9\nbegin C merge\nstep C 9\nbegin R renew\nstep R 9\n";
 
 const MERGED_SAID: &str = "A ok\nA ok\nC merged 6\nR ok\n";
 
@@ -111,13 +112,7 @@ fn schedules_are_executed(rt: HostRuntime) -> Result<(), Fail> {
             3,
             "line 2\n",
         ),
-        (
-            "nothing",
-            [].as_slice(),
-            "",
-            0,
-            "",
-        ),
+        ("nothing", [].as_slice(), "", 0, ""),
         (
             "a client can't join",
             [(1, false)].as_slice(),

@@ -42,7 +42,11 @@ pub(crate) struct Case<'a> {
 }
 
 // What a call over a store gives back, and what was written.
-pub(crate) fn ended<S: Store>(alloc: Global, case: &Case<'_>, store: S) -> Result<(Ended<S>, Vec<u8>), Fail>
+pub(crate) fn ended<S: Store>(
+    alloc: Global,
+    case: &Case<'_>,
+    store: S,
+) -> Result<(Ended<S>, Vec<u8>), Fail>
 where
     S: Drop,
 {

@@ -74,10 +74,12 @@ returns-clause-store_failed g c = λ status.
     let out = c.perform-ending.new.out in
     let performed = subst (λ (ws : List (List ℕ)). Performs ws c.perform-ending.result told told_now (left c.args.src.now) (left src)
     (faults c.args.src.now) (faults src) (taken c.args.out.now) (taken out) (puts c.args.out.now) (puts out))
-    (ap (map string_bytes) c.deref.ensures.value) c.perform-ending.ensures.ends in
-    (performed_as (map string_bytes c.args.words.now.items) c.perform-ending.result told told_now (left c.args.src.now) (left src)
-    (faults c.args.src.now) (faults src) (taken c.args.out.now) (taken out) (puts c.args.out.now) (puts out) performed
-    (Some endings.StoreFailed) finished.0, c.perform-ending.ensures.failed finished.0)
+    (ap (map string_bytes) c.deref.ensures.value) c.perform-ending.ensures.ends in (
+      performed_as (map string_bytes c.args.words.now.items) c.perform-ending.result told told_now (left c.args.src.now) (left src)
+          (faults c.args.src.now) (faults src) (taken c.args.out.now) (taken out) (puts c.args.out.now) (puts out) performed
+          (Some endings.StoreFailed) finished.0,
+      c.perform-ending.ensures.failed finished.0,
+    )
 
 pub returns-clause-damaged : goal.returns-clause-damaged
 returns-clause-damaged g c = λ status.
