@@ -17,6 +17,8 @@ mod sightings;
 mod starting;
 mod steps;
 mod taking;
+#[cfg(test)]
+mod tests;
 
 pub use clock_answers::ClockAnswer;
 pub use courses::Course;
