@@ -156,7 +156,7 @@ fn syncs(
 {
     operator.begin_sync()?;
     let answer = done(alloc, operator, store, client)?;
-    match answer {
+    match &answer {
         Some(ClockAnswer::Synced { upper }) => Ok(upper.is_at(21)),
         _ => Ok(false),
     }
@@ -173,7 +173,7 @@ fn publishes(
 {
     operator.begin_publish(alloc, &source(alloc)?)?;
     let answer = done(alloc, operator, store, client)?;
-    match answer {
+    match &answer {
         Some(ClockAnswer::Published { upper }) => Ok(upper.is_at(21)),
         _ => Ok(false),
     }
