@@ -43,6 +43,16 @@ fn row(alloc: Global, name: u8, time: u64) -> Result<UpdateList, AllocError> {
     Ok(rows)
 }
 
+// An expirer of its own expires at this moment, as client 6.
+fn expire_once(alloc: Global, store: &mut UntoldStore, now: u64) -> Result<String, AllocError> {
+    let mut expirer = Expirer::new(SHARD);
+    if expirer.begin_expire(alloc, now).is_err() {
+        return format!(in alloc; "not begun; ");
+    }
+    let poll = expire_on(alloc, &mut expirer, store, 6, 9)?;
+    expire_word(alloc, &poll)
+}
+
 impl Shop {
     /// A shop at an empty store that fails these calls, whose clients wait to be opened: the writer, the compactor with a lease of
     /// 1,000, and the reader with this one.
@@ -245,12 +255,7 @@ impl Shop {
         requires { IsSoundShop self.old }
         ensures { IsSoundShop self.new }
     {
-        let mut expirer = Expirer::new(SHARD);
-        if expirer.begin_expire(alloc, now).is_err() {
-            self.text.push_str("not begun; ")?;
-        }
-        let poll = expire_on(alloc, &mut expirer, &mut self.store, 6, 9)?;
-        let word = expire_word(alloc, &poll)?;
+        let word = expire_once(alloc, &mut self.store, now)?;
         self.text.push_str(&word)?;
         Ok(())
     }
