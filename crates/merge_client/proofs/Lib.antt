@@ -1,6 +1,7 @@
 pub mod Asking
 pub mod Begun
 pub mod Below
+pub mod Carrying
 pub mod Counts
 pub mod Costs
 pub mod DuePairs
@@ -26,6 +27,7 @@ pub mod Preparing
 pub mod ReadLegality
 pub mod ReadOn
 pub mod Reading
+pub mod Readied
 pub mod Replied
 pub mod Shards
 pub mod Sound

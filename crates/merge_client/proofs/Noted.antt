@@ -32,17 +32,18 @@ noted_ready c h = record {
     got = got c.pair h.sound.got;
     token = h.sound.token;
     seen = h.sound.seen;
+    tries = h.sound.tries;
   };
   drafted = h.drafted;
 }
   where
     lent : (o : Option Due) → IfSome o (λ q. IsLent c) → IfSome o (λ q. IsLent (noted c))
     lent None h = tt
-    lent (Some q) h = record { asked = h.asked; idle = h.idle; shard = h.shard; undrafted = h.undrafted }
+    lent (Some q) h = record { asked = h.asked; idle = h.idle; shard = h.shard; undrafted = h.undrafted; joined = h.joined }
 
     got : (o : Option Pair) → IfSome o (IsGot c) → IfSome o (IsGot (noted c))
     got None h = tt
-    got (Some p) h = record { asked = h.asked; idle = h.idle; light = h.light; known = h.known; unread = h.unread }
+    got (Some p) h = record { asked = h.asked; idle = h.idle; light = h.light; known = h.known; unread = h.unread; joined = h.joined }
 
 so_far : (client : ℕ) (c : Compactor) (start : Stored) (es : List Entry) (m : ℕ) → OnlyReads client m c start es →
     OnlyReads client m (noted c) start es

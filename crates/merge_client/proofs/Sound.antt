@@ -3,6 +3,7 @@ use Rattle.std.proofs.Common.{◌≡◌, ◌≤◌, ℕ, Bool, true, false, Opti
 use Rattle.std.specs.Prelude.{⊤, IsSome, IfSome}
 use Rattle.store_core.specs.declared.part_keys.PartKey.{PartKey}
 use Rattle.store_core.specs.declared.replies.Reply.{Reply}
+use Rattle.state_core.specs.declared.transitions.Transition.{Transition}
 use Rattle.state_core.specs.VersionReading.{most}
 use Rattle.history_core.specs.declared.asked.Asked.{Asked}
 use Rattle.history_core.specs.declared.asked.Asked.TheVariants as asks
@@ -26,14 +27,14 @@ use Rattle.read_machine.proofs.Sound.{Ends}
 use Rattle.read_machine.proofs.Ways.{Stays}
 use Rattle.token_machine.specs.declared.storings.Storing.{Storing}
 use Rattle.token_machine.specs.Storings as storing
-use Rattle.token_machine.proofs.Ways.{IsEnding, still_seen, tried_way}
+use Rattle.token_machine.proofs.Ways.{IsEnding, same, still_seen, tried_way}
 use Rattle.merge_client.specs.declared.compactors.Compactor.{Compactor}
 use Rattle.merge_client.specs.declared.dues.Due.{Due}
 use Rattle.merge_client.specs.declared.founds.Found.{Found}
 use Rattle.merge_client.specs.declared.founds.Found.TheVariants as founds
 use Rattle.merge_client.specs.declared.pairs.Pair.{Pair}
 use Rattle.merge_client.specs.Finding.{finding}
-use Rattle.merge_client.specs.Merging.{IsGot, IsIdle, IsLent, IsReady, IsSound, Moves, MovesAfterTry, MovesBy, ReadsTo, after_poll, left_fit, member_after, misfit, noted, read_poll, reading_on, spoilt, stopped, taken_back, told_fit, verdict}
+use Rattle.merge_client.specs.Merging.{AsksFor, IsGot, IsIdle, IsLent, IsReady, IsSound, Moves, MovesAfterTry, MovesBy, ReadsTo, TriesAsked, after_poll, left_fit, member_after, misfit, noted, read_poll, reading_on, spoilt, stopped, taken_back, told_fit, verdict}
 use Rattle.merge_client.proofs.Noted.{MovesFit, noted_ready}
 use Rattle.merge_client.proofs.Light.{read_light}
 
@@ -67,28 +68,30 @@ if_seen (Some member) P Q f h = f h
 rest_sound : (c : Compactor) (poll : Poll MergeAnswer) → storing.IsSound c.storing → readings.IsSound finding c.reading →
     c.reading.asked ≡ None →
     c.pair ≡ None → c.token ≤ most → IfSome c.member (λ m. IsSome c.storing.trying.loader.cached) →
-    ((answer : MergeAnswer) → poll ≡ polls.Done answer → IsSome c.storing.trying.loader.cached) → IsSound (after_poll c poll)
-rest_sound c poll s g unread none token seen known = go poll refl
+    ((answer : MergeAnswer) → poll ≡ polls.Done answer → IsSome c.storing.trying.loader.cached) → (GoesOn poll → TriesAsked c) →
+    IsSound (after_poll c poll)
+rest_sound c poll s g unread none token seen known tries = go poll refl
   where
     at : (asked : Option Asked) (member : Option ℕ) → IfSome member (λ m. IsSome c.storing.trying.loader.cached) →
-        IsSound (record c { asked = asked; member = member })
-    at asked member has = record {
+        IfSome asked (λ a. AsksFor a member c.token c.storing.trying.step) → IsSound (record c { asked = asked; member = member })
+    at asked member has asks = record {
       storing = s;
       reading = g;
       lent = subst (λ (o : Option Due). IfSome o (λ q. IsLent (record c { asked = asked; member = member }))) (sym unread) tt;
       got = subst (λ (o : Option Pair). IfSome o (IsGot (record c { asked = asked; member = member }))) (sym none) tt;
       token = token;
       seen = λ h. has;
+      tries = λ h k. asks;
     }
 
     go : (p : Poll MergeAnswer) → poll ≡ p → IsSound (after_poll c p)
-    go polls.Busy e = at c.asked c.member seen
-    go polls.More e = at c.asked c.member seen
-    go polls.Fault e = at c.asked c.member seen
-    go (polls.Damaged damage) e = at None c.member seen
-    go polls.Spent e = at None c.member seen
+    go polls.Busy e = at c.asked c.member seen (tries (subst GoesOn (sym e) tt))
+    go polls.More e = at c.asked c.member seen (tries (subst GoesOn (sym e) tt))
+    go polls.Fault e = at c.asked c.member seen (tries (subst GoesOn (sym e) tt))
+    go (polls.Damaged damage) e = at None c.member seen tt
+    go polls.Spent e = at None c.member seen tt
     go (polls.Done answer) e = at None (member_after c.member answer)
-        (if_any (member_after c.member answer) (IsSome c.storing.trying.loader.cached) (known answer e))
+        (if_any (member_after c.member answer) (IsSome c.storing.trying.loader.cached) (known answer e)) tt
 
 -- ---- a transition
 
@@ -188,7 +191,8 @@ try_sound old new reply poll ready sound unread (s, tried, asked, moves, asked_i
     ready.drafted ready.sound.token
     (if_seen old.member (IsSome old.storing.trying.loader.cached) (IsSome s.trying.loader.cached) (still_seen old.storing s
     reply tried moves)
-    (ready.sound.seen unread)) known)
+    (ready.sound.seen unread)) known (λ g. subst (λ (x : Transition). IfSome old.asked (λ a. AsksFor a old.member old.token x))
+    (sym (same old.storing s reply tried moves).step) (ready.sound.tries unread ready.drafted)))
   where
     s_sound : storing.IsSound s
     s_sound = subst storing.IsSound (kept_storing (record old { storing = s }) poll) (subst (λ (c : Compactor).
@@ -226,10 +230,12 @@ on_sound old q r ready ask sound g asked shard =
         idle = idle_on old.storing (reading_on old r).storing.trying.calls old.storing.trying.loader lent.idle;
         shard = shard ∙ lent.shard;
         undrafted = ready.drafted;
+        joined = lent.joined;
       });
       got = subst (λ (o : Option Pair). IfSome o (IsGot (reading_on old r))) (sym ready.drafted) tt;
       token = ready.sound.token;
       seen = λ none. absurd (let bad : Some q ≡ None = sym asked ∙ none in cc);
+      tries = λ none k. absurd (let bad : Some q ≡ None = sym asked ∙ none in cc);
     }
 
 read_sound : (old new : Compactor) (q : Due) (reply : Reply) (poll : Poll MergeAnswer) → IsReady old →
@@ -270,17 +276,17 @@ read_sound old new q reply poll ready sound g ask (r, read, moves, (poll_is, new
         (ap (λ (k : readings.ReadKept Due). k.asked) (read_kept finding old.reading r reply read moves (subst GoesOn (sym
         e) on)) ∙ ask) stays.shard
 
-    over : (p : Poll Found) → read ≡ p → Ends p → (taken_back (reading_on old r) p).pair ≡ None →
+    over : (p : Poll Found) → read ≡ p → ¬ GoesOn (read_poll p) → Ends p → (taken_back (reading_on old r) p).pair ≡ None →
         storing.IsSound (taken_back (reading_on old r) p).storing → readings.IsSound finding (taken_back (reading_on old r)
         p).reading →
         (taken_back (reading_on old r) p).reading.asked ≡ r.asked → (taken_back (reading_on old r) p).token ≡ old.token →
         (taken_back (reading_on old r) p).storing.trying.loader.cached ≡ r.course.loader.cached → IsSound (at p)
-    over p e ends none s_p g_p asked token cached =
+    over p e still ends none s_p g_p asked token cached =
         let has : IsSome (taken_back (reading_on old r) p).storing.trying.loader.cached = subst IsSome (sym cached) some in
         rest_sound (taken_back (reading_on old r) p) (read_poll p) s_p g_p (asked ∙ none_at p e ends) none
         (subst (λ (n : ℕ). n ≤ most) (sym token) ready.sound.token)
         (if_any (taken_back (reading_on old r) p).member (IsSome (taken_back (reading_on old r)
-        p).storing.trying.loader.cached) has) (λ answer h. has)
+        p).storing.trying.loader.cached) has) (λ answer h. has) (λ g. absurd (still g))
 
     -- a pair that was got
     due : (p : Pair) → read ≡ polls.Done (founds.Due p) → IsSound (at (polls.Done (founds.Due p)))
@@ -295,9 +301,11 @@ read_sound old new q reply poll ready sound g ask (r, read, moves, (poll_is, new
             (subst (λ (z : Poll Found). readings.Moves finding old.reading reply r z) e moves) r_sound;
         known = some;
         unread = unread;
+        joined = lent.joined;
       };
       token = ready.sound.token;
       seen = λ h. if_any old.member (IsSome r.course.loader.cached) some;
+      tries = λ h k. absurd (let bad : Some p ≡ None = k in cc);
     }
       where
         unread : r.asked ≡ None
@@ -313,14 +321,14 @@ read_sound old new q reply poll ready sound g ask (r, read, moves, (poll_is, new
     by polls.Busy e = goes polls.Busy e tt (s_at polls.Busy e) (g_at polls.Busy e)
     by polls.More e = goes polls.More e tt (s_at polls.More e) (g_at polls.More e)
     by polls.Fault e = goes polls.Fault e tt (s_at polls.Fault e) (g_at polls.Fault e)
-    by polls.Spent e = over polls.Spent e tt ready.drafted (s_at polls.Spent e) (g_at polls.Spent e) refl refl refl
-    by (polls.Damaged damage) e = over (polls.Damaged damage) e tt ready.drafted (s_at (polls.Damaged damage) e) (g_at
+    by polls.Spent e = over polls.Spent e (λ g. g) tt ready.drafted (s_at polls.Spent e) (g_at polls.Spent e) refl refl refl
+    by (polls.Damaged damage) e = over (polls.Damaged damage) e (λ g. g) tt ready.drafted (s_at (polls.Damaged damage) e) (g_at
         (polls.Damaged damage) e) refl refl refl
     by (polls.Done (founds.Nothing version)) e =
-        over (polls.Done (founds.Nothing version)) e tt refl (s_at (polls.Done (founds.Nothing version)) e) (g_at
+        over (polls.Done (founds.Nothing version)) e (λ g. g) tt refl (s_at (polls.Done (founds.Nothing version)) e) (g_at
         (polls.Done (founds.Nothing version)) e) refl refl refl
     by (polls.Done (founds.Gone version)) e =
-        over (polls.Done (founds.Gone version)) e tt refl (s_at (polls.Done (founds.Gone version)) e) (g_at (polls.Done
+        over (polls.Done (founds.Gone version)) e (λ g. g) tt refl (s_at (polls.Done (founds.Gone version)) e) (g_at (polls.Done
         (founds.Gone version)) e) refl refl refl
     by (polls.Done (founds.Due p)) e = due p e
 
@@ -333,7 +341,7 @@ unfit_sound : (old new : Compactor) (q : Due) (r : Reading Due) (reply : Reply) 
     readings.Moves finding old.reading reply r read → (key : PartKey) → ReadsTo (noted old) (stopped r) (spoilt key) new poll → IsSound new
 unfit_sound old new q r reply poll read ready s g ask moves key (poll_is, new_is) = subst IsSound (sym now)
     (rest_sound (unfit old r key) (polls.Damaged (damages.Weight key)) s_here g_here refl ready.drafted ready.sound.token (if_any (unfit old r key).member
-    (IsSome (unfit old r key).storing.trying.loader.cached) known) (λ answer h. known))
+    (IsSome (unfit old r key).storing.trying.loader.cached) known) (λ answer h. known) (λ g. absurd g))
   where
     now : new ≡ after_poll (unfit old r key) (polls.Damaged (damages.Weight key))
     now = new_is ∙ ap (λ (p : Poll MergeAnswer). after_poll (unfit old r key) p) poll_is

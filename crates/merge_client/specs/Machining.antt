@@ -1,20 +1,27 @@
 -- A compactor as a machine that is polled. Entries go newest first.
-use Rattle.std.specs.Prelude.{◌≡◌, ℕ, Option, None, IfSome, List}
+use Rattle.std.specs.Prelude.{⊤, ◌≡◌, ℕ, ◌+◌, Option, Some, None, IfSome, IsSomeAnd, List}
 use Rattle.update_core.specs.declared.updates.Update.{Update}
 use Rattle.store_core.specs.declared.shards.ShardId.{ShardId}
+use Rattle.store_core.specs.declared.calls.Call.{Call}
+use Rattle.store_core.specs.declared.calls.Call.TheVariants as calls
 use Rattle.store_core.specs.declared.replies.Reply.{Reply}
 use Rattle.store_core.specs.declared.entries.Entry.{Entry}
 use Rattle.store_core.specs.Stores.{Stored}
+use Rattle.state_core.specs.declared.transitions.Transition.{Transition}
+use Rattle.state_core.specs.States.{ShardState}
+use Rattle.state_core.specs.VersionReading.{version_in}
 use Rattle.history_core.specs.declared.asked.Asked.{Asked}
+use Rattle.history_core.specs.declared.asked.Asked.TheVariants as asks
 use Rattle.history_core.specs.declared.merge_answers.MergeAnswer.{MergeAnswer}
 use Rattle.history_core.specs.Legal.{Command}
 use Rattle.history_core.specs.Upkeep.{LegalMergeBack}
 use Rattle.load_core.specs.declared.polls.Poll.{Poll}
+use Rattle.load_core.specs.Firsts.{MakesFirst}
 use Rattle.machine_core.specs.Machines.{Words}
 use Rattle.merge_client.specs.declared.compactors.Compactor.{Compactor}
 use Rattle.merge_client.specs.Following.{FollowsAll, Spares}
 use Rattle.merge_client.specs.Merging as merging
-use Rattle.merge_client.specs.Merging.{IsOpen, IsReady, IsSound, Prepares, Wants, call_of, member_after, shard_of}
+use Rattle.merge_client.specs.Merging.{AsksFor, IsOpen, IsReady, IsSound, Prepares, Wants, call_of, member_after, shard_of}
 use Rattle.merge_client.specs.Polling.{CostAt, CostOver, Effect}
 
 -- what stays of a compactor while a command goes on
@@ -30,6 +37,25 @@ kept c = record { asked = c.asked; member = c.member; token = c.token; shard = s
 -- what a reply comes to; the shard stays
 abbrev pub Moves : Compactor → Reply → Compactor → Poll MergeAnswer → Type 0
 Moves old reply new poll = merging.Moves old reply new poll × (shard_of new ≡ shard_of old)
+
+-- the command opens
+abbrev pub Opens : Option Asked → Type 0
+Opens (Some (asks.OpenCompactor shard now lease)) = ⊤
+Opens _ = ⊥
+
+-- a Cas on a version is of this shard, and carries a transition that is asked for
+abbrev pub Carries : Kept → Call → Type 0
+Carries k (calls.Cas at_shard (Some n) bytes) =
+    (at_shard ≡ k.shard) × (to : ShardState) × (x : Transition) × (version_in k.shard (n + 1) bytes ≡ Some (to, x)) ×
+    IsSomeAnd k.asked (λ asked. AsksFor asked k.member k.token x)
+Carries k _ = ⊤
+
+-- What one call has done: a Cas carries what was asked, or else makes the shard's first version for an open; and it has committed no more
+-- than this.
+pub record Did (k : Kept) (call : Call) (reply : Reply) (poll : Poll MergeAnswer) : Type 0 where
+  pub carries : Carries k call
+  pub first : MakesFirst (Opens k.asked) k.shard call
+  pub effect : Effect k.shard call reply poll
 
 -- a compactor whose command has ended with an answer
 pub record Ended (k : Kept) (answer : MergeAnswer) (c : Compactor) : Type 0 where
@@ -69,7 +95,7 @@ machine = record {
   Moves = Moves;
   Wants = Wants;
   Ends = Ended;
-  Effect = λ k. Effect k.shard;
+  Effect = Did;
   Follows = FollowsAll;
   Spares = Spares;
   Legal = Legal;

@@ -1,6 +1,7 @@
 -- A compactor: what it does next, and what a reply makes of it.
-use Rattle.std.specs.Prelude.{◌≡◌, ℕ, ◌≤◌, ◌^◌, Option, Some, None, IsSome, IfSome, unwrap_or, [], length}
+use Rattle.std.specs.Prelude.{◌≡◌, ℕ, ◌≤◌, ◌^◌, Option, Some, None, IsSome, IfSome, IsSomeAnd, unwrap_or, [], length}
 use Rattle.update_core.specs.Updates.{weight_of}
+use Rattle.spine_core.specs.declared.batches.Batch.{Batch}
 use Rattle.store_core.specs.declared.shards.ShardId.{ShardId}
 use Rattle.store_core.specs.declared.part_keys.PartKey.{PartKey}
 use Rattle.store_core.specs.declared.calls.Call.{Call}
@@ -8,7 +9,8 @@ use Rattle.store_core.specs.declared.replies.Reply.{Reply}
 use Rattle.state_core.specs.declared.kinds.Kind.TheVariants.{Keeper}
 use Rattle.state_core.specs.declared.refusals.Refusal.{Refusal}
 use Rattle.state_core.specs.declared.refusals.Refusal.TheVariants as refusals
-use Rattle.state_core.specs.declared.transitions.Transition.TheVariants.{Init, Join}
+use Rattle.state_core.specs.declared.transitions.Transition.{Transition}
+use Rattle.state_core.specs.declared.transitions.Transition.TheVariants.{Init, Join, Leave, Merge, Renew}
 use Rattle.state_core.specs.VersionReading.{most}
 use Rattle.history_core.specs.declared.asked.Asked.{Asked}
 use Rattle.history_core.specs.declared.asked.Asked.TheVariants as asks
@@ -77,6 +79,21 @@ own_member c = unwrap_or c.member 0
 abbrev pub owner : Compactor → Owner
 owner c = record { shard = shard_of c; member = own_member c; token = c.token }
 
+-- ---- what is asked
+
+-- the transition is one that the command of a member asks for, a merge under the token
+abbrev pub AsksFor : Asked → Option ℕ → ℕ → Transition → Type 0
+AsksFor (asks.OpenCompactor shard now lease) member token x = x ≡ Join Keeper now lease
+AsksFor asks.Merge member token x =
+    IsSomeAnd member (λ m. (left : Batch) × (right : Batch) × (merged : Batch) × (x ≡ Merge m token left right merged))
+AsksFor (asks.RenewCompactor now) member token x = IsSomeAnd member (λ m. x ≡ Renew m now)
+AsksFor asks.CloseCompactor member token x = IsSomeAnd member (λ m. x ≡ Leave m)
+AsksFor _ member token x = ⊥
+
+-- what is tried is what is asked, where a command is open
+abbrev pub TriesAsked : Compactor → Type 0
+TriesAsked c = IfSome c.asked (λ asked. AsksFor asked c.member c.token c.storing.trying.step)
+
 -- ---- what it holds besides any history
 
 -- nothing is tried, and no part is left
@@ -89,6 +106,7 @@ pub record IsLent (c : Compactor) : Type 0 where
   pub idle : IsIdle c.storing
   pub shard : c.reading.course.loader.shard ≡ shard_of c
   pub undrafted : c.pair ≡ None
+  pub joined : IsSome c.member
 
 -- a merge is open whose pair is got, and not too heavy, and which isn't drafted yet
 pub record IsGot (c : Compactor) (p : Pair) : Type 0 where
@@ -97,6 +115,7 @@ pub record IsGot (c : Compactor) (p : Pair) : Type 0 where
   pub light : weight_of p.rows ≤ 2 ^ 62
   pub known : IsSome c.storing.trying.loader.cached
   pub unread : c.reading.asked ≡ None
+  pub joined : IsSome c.member
 
 pub record IsSound (c : Compactor) : Type 0 where
   pub storing : storing.IsSound c.storing
@@ -106,6 +125,8 @@ pub record IsSound (c : Compactor) : Type 0 where
   pub token : c.token ≤ most
   -- a member was seen to join
   pub seen : c.reading.asked ≡ None → IfSome c.member (λ member. IsSome c.storing.trying.loader.cached)
+  -- a pair isn't read or got while something else is tried
+  pub tries : c.reading.asked ≡ None → c.pair ≡ None → TriesAsked c
 
 -- the same once its next call is prepared: a pair that is got is drafted
 pub record IsReady (c : Compactor) : Type 0 where
