@@ -6,8 +6,6 @@ mod drives;
 pub use drives::{merge_on, read_on, write_on};
 
 #[cfg(test)]
-mod merges;
-#[cfg(test)]
 mod scenes;
 #[cfg(test)]
 mod tests;

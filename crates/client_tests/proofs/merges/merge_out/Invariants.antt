@@ -1,5 +1,0 @@
-use Rattle.merge_client.specs.Merging.{IsSound}
-use Rattle.client_tests.proofs.merges.merge_out.Given as goal
-
-abbrev pub invariant-loop : goal.invariant-loop
-invariant-loop l = IsSound l.compactor
