@@ -4,3 +4,8 @@ pub mod Stepping
 pub mod Clients
 pub mod Begins
 pub mod Polls
+pub mod Kinds
+pub mod Makes
+pub mod Lines
+pub mod Executing
+pub mod Endings
