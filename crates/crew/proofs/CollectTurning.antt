@@ -1,5 +1,5 @@
 -- What a turn of a worker that collects comes to.
-use Rattle.std.proofs.Common.{◌≡◌, ℕ, ◌<◌, true, false, Option, Some, None, List, refl, sym, ap, subst, ◌∙◌}
+use Rattle.std.proofs.Common.{◌≡◌, ℕ, ◌<◌, true, false, Option, Some, None, List, refl, subst}
 use Rattle.std.specs.Prelude.{IfSome, IsSome, reverse}
 use Rattle.update_core.specs.declared.updates.Update.{Update}
 use Rattle.store_core.specs.declared.shards.ShardId.{ShardId}
@@ -20,11 +20,9 @@ use Rattle.load_core.specs.declared.polls.Poll.TheVariants as polls
 use Rattle.load_core.specs.Fronts.{Backwards, WhereLawful}
 use Rattle.machine_core.specs.Polling.{FollowsWhere, LegalWhere, Polled, Unpolled}
 use Rattle.maint_client.specs.declared.collectors.Collector.{Collector}
-use Rattle.maint_client.specs.Collecting.{CollectKept, Follows, IsCollecting, IsOpen, collecting, command, kept}
-use Rattle.crew_core.specs.KeepingOn.{KeepsOn}
-use Rattle.crew_core.specs.Working.{CarriesWorkers, IsWorkersEntry, as_collector}
+use Rattle.maint_client.specs.Collecting.{Follows, IsCollecting, IsOpen, collecting, command, kept}
+use Rattle.crew_core.specs.Working.{CarriesWorkers, as_collector}
 use Rattle.crew.specs.declared.collecting.CollectorWorker.{CollectorWorker}
-use Rattle.crew.specs.declared.ends.WorkerEnd.{WorkerEnd}
 use Rattle.crew.specs.declared.ends.WorkerEnd.TheVariants as ends
 use Rattle.crew.specs.declared.ends.WorkerTurn.{WorkerTurn}
 use Rattle.crew.specs.declared.ends.WorkerTurn.TheVariants as turns

@@ -30,7 +30,7 @@ use Rattle.crew_core.specs.declared.jobs.Job.{Job}
 use Rattle.crew_core.specs.Keeping.{Keeps}
 use Rattle.crew_core.specs.Working.{IsWorkersEntry, Role, as_collector, as_compactor, as_writer, role_of}
 use Rattle.crew_core.specs.Competing.{FromWorkers}
-use Rattle.crew_core.proofs.CrewLaws.{competing_law, lawful_law}
+use Rattle.crew_core.proofs.CrewLaws.{competing_law, lawful_law, readers_law}
 use Rattle.crew_core.proofs.Keeping.{entries_joined, keeps_first, of_entries}
 use Rattle.std.specs.Prelude.{IfNone, IfSome, IsSome}
 use Rattle.std.proofs.lemmas.List.{append_cancel_left}
@@ -80,16 +80,21 @@ crew_ran plan h gain kin feed each keeps = record {
       keeps e.client mine older newer e split refl list st
       (prefix_lawful (with_entries h older) (e ∷ newer) (subst Lawful (sym joined) whole));
   collection = λ list st l c has older newer split.
-      competing_law (job_in plan) plan.appends plan.shard list kin h older feed.follow st l (record {
-        each_of = first_in kin older newer (subst (EachIn entry_client kin) split each);
-        each_keeps = λ n mine.
-            keeps_first (IsWorkersEntry (role_in plan n) plan.shard) plan.shard n h older newer
-            (subst (Keeps (IsWorkersEntry (role_in plan n) plan.shard) plan.shard n h) split (keeps n mine));
-      }) c has;
+      competing_law (job_in plan) plan.appends plan.shard list kin h older feed.follow st l (some older newer split) c has;
+  readers = λ list st l member since there older newer split.
+      readers_law (job_in plan) plan.appends plan.shard list kin h older st l (some older newer split) member since there;
 }
   where
     all : FromWorkers (job_in plan) plan.appends plan.shard kin h gain
     all = record { each_of = each; each_keeps = keeps }
+
+    some : (older newer : List Entry) → gain ≡ older ++ newer → FromWorkers (job_in plan) plan.appends plan.shard kin h older
+    some older newer split = record {
+      each_of = first_in kin older newer (subst (EachIn entry_client kin) split each);
+      each_keeps = λ n mine.
+          keeps_first (IsWorkersEntry (role_in plan n) plan.shard) plan.shard n h older newer
+          (subst (Keeps (IsWorkersEntry (role_in plan n) plan.shard) plan.shard n h) split (keeps n mine));
+    }
 
 module _ {S : Type 0} where
   -- where the history wasn't told nothing is

@@ -1,12 +1,10 @@
 -- A worker that merges is ready once a command of its compactor has begun.
 use Rattle.std.proofs.Common.{◌≡◌, ℕ, true, Bool, Option, Some, None, refl, sym, ap, subst, ◌∙◌}
 use Rattle.std.specs.Prelude.{IsSome, IfSome}
-use Rattle.store_core.specs.declared.shards.ShardId.{ShardId}
 use Rattle.store_core.specs.Histories.{History}
 use Rattle.state_core.specs.declared.transitions.Transition.TheVariants.{Leave}
 use Rattle.history_core.specs.declared.asked.Asked.{Asked}
 use Rattle.history_core.specs.declared.asked.Asked.TheVariants as asks
-use Rattle.load_core.specs.declared.begin_faults.BeginFault.{BeginFault}
 use Rattle.load_core.specs.declared.begin_faults.BeginFault.TheVariants as faults
 use Rattle.machine_core.specs.Polling.{FollowsWhere}
 use Rattle.merge_client.specs.declared.compactors.Compactor.{Compactor}

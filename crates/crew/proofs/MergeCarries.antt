@@ -2,10 +2,8 @@
 use Rattle.std.proofs.Common.{◌≡◌, ℕ, ◌+◌, true, false, Option, Some, None, List, inl, inr, refl, sym, ap, subst, ◌∙◌}
 use Rattle.std.specs.Prelude.{IfSome, IsSome}
 use Rattle.store_core.specs.declared.shards.ShardId.{ShardId}
-use Rattle.store_core.specs.declared.part_keys.PartKey.{PartKey}
 use Rattle.store_core.specs.declared.calls.Call.{Call}
 use Rattle.store_core.specs.declared.calls.Call.TheVariants as calls
-use Rattle.store_core.specs.declared.replies.Reply.{Reply}
 use Rattle.store_core.specs.declared.entries.Entry.{Entry}
 use Rattle.store_core.specs.Stores.{Stored}
 use Rattle.store_core.specs.Ports.{Answered}
@@ -16,12 +14,10 @@ use Rattle.state_core.specs.States.{ShardState}
 use Rattle.state_core.specs.VersionReading.{version_in}
 use Rattle.state_core.proofs.ListLemmas.{bool_cases}
 use Rattle.history_core.specs.declared.asked.Asked.{Asked}
-use Rattle.history_core.specs.declared.merge_answers.MergeAnswer.{MergeAnswer}
 use Rattle.history_core.specs.Members.{JoinedAs}
 use Rattle.load_core.specs.declared.attempts.Attempt.TheVariants as attempts
 use Rattle.load_core.specs.declared.nexts.Next.{Next}
 use Rattle.load_core.specs.declared.nexts.Next.TheVariants as nexts
-use Rattle.load_core.specs.declared.polls.Poll.{Poll}
 use Rattle.load_core.specs.declared.readies.Ready.{Ready}
 use Rattle.load_core.specs.declared.tryings.Trying.{Trying}
 use Rattle.load_core.specs.Attempts.{IsReady}
@@ -41,7 +37,7 @@ use Rattle.merge_client.specs.declared.compactors.Compactor.{Compactor}
 use Rattle.merge_client.specs.declared.dues.Due.{Due}
 use Rattle.merge_client.specs.Finding.{finding}
 use Rattle.merge_client.specs.Following.{Follows, FollowsAll}
-use Rattle.merge_client.specs.Machining.{Kept, kept, machine}
+use Rattle.merge_client.specs.Machining.{Kept, kept}
 use Rattle.merge_client.specs.Merging.{IsOpen, IsSound, Prepares, call_by, call_of, shard_of}
 use Rattle.merge_client.proofs.Going.{Asks, asks_of, closes, merges, opens, renews, step_of}
 use Rattle.merge_client.proofs.Machining.{keeps}

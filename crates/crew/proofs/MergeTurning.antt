@@ -1,5 +1,5 @@
 -- What a turn of a worker that merges comes to.
-use Rattle.std.proofs.Common.{◌≡◌, ℕ, ◌<◌, true, false, Option, Some, None, List, [], refl, sym, ap, subst, ◌∙◌}
+use Rattle.std.proofs.Common.{◌≡◌, ℕ, ◌<◌, true, false, Option, Some, None, List, [], refl, sym, ap, subst}
 use Rattle.std.specs.Prelude.{IfSome, IsSome, reverse}
 use Rattle.update_core.specs.declared.updates.Update.{Update}
 use Rattle.store_core.specs.declared.shards.ShardId.{ShardId}
@@ -13,8 +13,6 @@ use Rattle.state_core.specs.VersionReading.{most}
 use Rattle.history_core.specs.declared.asked.Asked.{Asked}
 use Rattle.history_core.specs.declared.merge_answers.MergeAnswer.{MergeAnswer}
 use Rattle.history_core.specs.declared.merge_answers.MergeAnswer.TheVariants as answers
-use Rattle.history_core.specs.Discipline.{Lawful}
-use Rattle.history_core.specs.Stands.{StandsFor}
 use Rattle.history_core.specs.Upkeep.{LegalMergeBack}
 use Rattle.load_core.specs.declared.polls.Poll.{Poll}
 use Rattle.load_core.specs.declared.polls.Poll.TheVariants as polls
@@ -27,13 +25,12 @@ use Rattle.merge_client.specs.Merging.{IsOpen, Prepares, call_of, shard_of}
 use Rattle.merge_client.proofs.Machining.{keeps}
 use Rattle.crew_core.specs.KeepingOn.{KeepsOn}
 use Rattle.crew_core.specs.Working.{CarriesWorkers, IsWorkersEntry, as_compactor}
-use Rattle.crew.specs.declared.ends.WorkerEnd.{WorkerEnd}
 use Rattle.crew.specs.declared.ends.WorkerEnd.TheVariants as ends
 use Rattle.crew.specs.declared.ends.WorkerTurn.{WorkerTurn}
 use Rattle.crew.specs.declared.ends.WorkerTurn.TheVariants as turns
 use Rattle.crew.specs.declared.merging.CompactorWorker.{CompactorWorker}
 use Rattle.crew.specs.Ends.{AsksToMerge, CompactorMeans, HasMerged, IsMergeAnswered, NothingWasDue, Once}
-use Rattle.crew.specs.Merging.{Comes, DoneMeans, IsClosedAt, IsGoing, IsReady, IsTold, IsToldAt}
+use Rattle.crew.specs.Merging.{Comes, DoneMeans, IsClosedAt, IsGoing, IsReady, IsTold}
 use Rattle.crew.specs.Turns.{IsFaulted, IsMarked, ReadyAgain, TurnMeans, Turned}
 use Rattle.crew.proofs.Endings.{once_here, once_keeps, where_map}
 use Rattle.crew.proofs.MergeCarries.{carries_of}

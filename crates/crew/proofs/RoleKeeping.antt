@@ -8,7 +8,7 @@ use Rattle.store_core.specs.declared.shards.ShardId.{ShardId}
 use Rattle.store_core.specs.declared.entries.Entry.{Entry}
 use Rattle.store_core.specs.Histories.{History}
 use Rattle.store_core.specs.Stores.{Stored}
-use Rattle.store_core.specs.Ports.{Answered, GainsWhereTold, GrowsByOthers, OfOthers}
+use Rattle.store_core.specs.Ports.{Answered, GrowsByOthers, OfOthers}
 use Rattle.store_core.specs.Newest.{mine_back}
 use Rattle.store_core.proofs.NewestLaws.{oldest-last}
 use Rattle.state_core.proofs.ListLemmas.{each_append}

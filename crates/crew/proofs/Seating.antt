@@ -1,10 +1,9 @@
 -- What a worker's work makes of its seat.
-use Rattle.std.proofs.Common.{◌⊎◌, inl, inr, ◌≡◌, ℕ, ◌+◌, ◌-◌, ◌<◌, zero, suc, cond, Bool, true, false, Option, Some, None, List, [], ◌∷◌}
+use Rattle.std.proofs.Common.{◌⊎◌, inl, inr, ◌≡◌, ℕ, ◌+◌, ◌<◌, zero, suc, cond, Bool, true, false, Option, Some, None, List, [], ◌∷◌}
 use Rattle.std.proofs.Common.{◌++◌, length, refl, sym, ap, subst, ◌∙◌, arith}
 use Rattle.std.specs.Prelude.{◌==◌, IfSome, IsSome}
 use Rattle.std.proofs.lemmas.Bool.Decides.{nat_tests}
 use Rattle.state_core.proofs.ListLemmas.{bool_cases}
-use Rattle.std.specs.List.{AllByRecursion}
 use Rattle.turnstile.specs.declared.views.View.{View}
 use Rattle.turnstile.specs.declared.passes.Pass.{Pass}
 use Rattle.turnstile.specs.declared.passes.Pass.{Pass}
@@ -28,7 +27,7 @@ use Rattle.crew.specs.Posts.{SamePass, opened}
 use Rattle.store_core.specs.declared.stores.Store.{Ghosts}
 use Rattle.crew.specs.declared.seats.Seat.{Seat}
 use Rattle.crew.specs.declared.plans.Plan.{Plan}
-use Rattle.crew.specs.Plans.{job_in, job_of, role_in}
+use Rattle.crew.specs.Plans.{job_in, role_in}
 use Rattle.std.proofs.lemmas.List.{length-append}
 use Rattle.crew.specs.Seats.{IsAlone, IsNew, IsPlaceFor, IsSeated, KinKeeps, PlacedFrom, SeenSame, Shows}
 use Rattle.crew.proofs.PortKeeping.{front_is, opened_same, rest_is, some_is}

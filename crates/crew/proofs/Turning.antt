@@ -1,8 +1,8 @@
 -- What a poll of a worker's writer adds to its front.
-use Rattle.std.proofs.Common.{◌≡◌, ◌≢◌, ◌⊎◌, ℕ, ◌+◌, ◌<◌, ◌≤◌, ◌^◌, min, false, Option, Some, None, List, [], ◌∷◌, ◌++◌}
+use Rattle.std.proofs.Common.{◌≡◌, ℕ, ◌+◌, ◌<◌, ◌≤◌, ◌^◌, min, false, Option, Some, None, List, [], ◌∷◌}
 use Rattle.std.proofs.Common.{length, inl, inr, refl, sym, ap}
 use Rattle.std.proofs.Common.{subst, ◌∙◌, arith}
-use Rattle.std.specs.Prelude.{IfSome, reverse}
+use Rattle.std.specs.Prelude.{IfSome}
 use Rattle.update_core.specs.declared.updates.Update.{Update}
 use Rattle.update_core.specs.declared.appends.FeedAppend.{FeedAppend}
 use Rattle.update_core.specs.Updates.{cons, weight_of}
@@ -14,40 +14,30 @@ use Rattle.store_core.specs.declared.replies.Reply.{Reply}
 use Rattle.store_core.specs.declared.entries.Entry.{Entry}
 use Rattle.store_core.specs.Histories.{History}
 use Rattle.store_core.specs.Stores.{Stored}
-use Rattle.store_core.specs.Ports.{Answered, GainsWhereTold, GrowsByOthers, OfOthers}
+use Rattle.store_core.specs.Ports.{Answered}
 use Rattle.store_core.specs.Newest.{mine_back}
-use Rattle.store_core.proofs.NewestLaws.{oldest-last}
-use Rattle.state_core.proofs.ListLemmas.{bool_cases, each_append}
+use Rattle.state_core.proofs.ListLemmas.{bool_cases}
 use Rattle.state_core.specs.declared.kinds.Kind.TheVariants.{Writer as AsWriter}
 use Rattle.state_core.specs.declared.transitions.Transition.TheVariants.{Append}
 use Rattle.state_core.specs.Lists.{Among}
 use Rattle.history_core.specs.declared.asked.Asked.{Asked}
 use Rattle.history_core.specs.declared.asked.Asked.TheVariants as asks
 use Rattle.history_core.specs.declared.write_answers.WriteAnswer.{WriteAnswer}
-use Rattle.history_core.specs.Discipline.{Allows, Hold, Lawful, StoredAs}
+use Rattle.history_core.specs.Discipline.{Hold, StoredAs}
 use Rattle.history_core.specs.Members.{JoinedAs}
-use Rattle.history_core.proofs.Gaining.{mine_others}
-use Rattle.history_core.proofs.LawfulLaws.{turned}
-use Rattle.history_core.proofs.Prefixes.{prefix_lawful}
 use Rattle.load_core.specs.declared.nexts.Next.{Next}
 use Rattle.load_core.specs.declared.nexts.Next.TheVariants as nexts
 use Rattle.load_core.specs.declared.polls.Poll.{Poll}
 use Rattle.load_core.specs.declared.polls.Poll.TheVariants as polls
-use Rattle.load_core.specs.declared.tryings.Trying.{Trying}
-use Rattle.state_core.specs.States.{ShardState}
-use Rattle.load_core.specs.Fronts.{Backwards, WhereLawful}
 use Rattle.load_core.specs.Loading.{scan_from}
 use Rattle.load_core.specs.Runs.{OnlyCarries}
 use Rattle.load_core.specs.Setting as setting
 use Rattle.load_core.specs.Trying as trying
 use Rattle.load_core.proofs.SettingFollows.{all_hold, next_is}
-use Rattle.machine_core.specs.Machines.{IsReading}
-use Rattle.machine_core.specs.Polling.{Calls, FollowsWhere, LegalWhere, Polled, Unpolled, Wanted}
+use Rattle.machine_core.specs.Polling.{FollowsWhere, LegalWhere, Polled, Unpolled}
 use Rattle.state_core.specs.VersionReading.{most}
 use Rattle.token_machine.specs.declared.storings.Storing.{Storing}
 use Rattle.token_machine.specs.Storings.{sets, sets_before}
-use Rattle.token_machine.specs.Storings as storings
-use Rattle.write_client.proofs.Machining.{keeps}
 use Rattle.token_machine.proofs.Ways.{call_false, call_true, sets_done}
 use Rattle.write_client.specs.declared.writers.Writer.{Writer}
 use Rattle.write_client.specs.Drafting.{HasUpdates, counted_weight}
@@ -58,13 +48,12 @@ use Rattle.write_client.proofs.Asking.{Asks, append_facts, appends as append_ask
 use Rattle.appends_core.specs.Feeds.{IsFeed, weight_of_all}
 use Rattle.crew_core.specs.KeepingOn.{KeepsOn}
 use Rattle.crew_core.specs.Working.{CarriesWorkers, IsOneOf, IsWorkersEntry, IsWorkersStep, as_writer}
-use Rattle.crew_core.proofs.Keeping.{on_gains, on_others, on_same}
 use Rattle.crew.specs.declared.ends.WorkerTurn.{WorkerTurn}
 use Rattle.crew.specs.declared.ends.WorkerTurn.TheVariants as turns
 use Rattle.crew.specs.declared.ends.WorkerEnd.TheVariants as ends
 use Rattle.crew.specs.declared.writing.WriterWorker.{WriterWorker}
 use Rattle.crew.specs.Ends.{AsksAt, WriterMeans}
-use Rattle.crew.specs.Turns.{GoesOnFor, IsFaulted, IsMarked, ReadyAgain, TurnMeans, Turned}
+use Rattle.crew.specs.Turns.{IsFaulted, IsMarked, ReadyAgain, TurnMeans, Turned}
 use Rattle.crew.specs.Writing.{Comes, IsReady, IsTold}
 use Rattle.crew.proofs.Endings.{told_of, with_writer}
 use Rattle.crew.proofs.Among.{among_at}

@@ -1,5 +1,5 @@
 -- What a crew makes of its store. docs/DEFINITIONS.md, "Crews that run".
-use Rattle.std.specs.Prelude.{◌≡◌, Option, Some, None, List, ◌∷◌, ◌++◌, reverse}
+use Rattle.std.specs.Prelude.{◌≡◌, ℕ, Option, Some, None, List, ◌∷◌, ◌++◌, reverse}
 use Rattle.update_core.specs.declared.updates.Update.{Update}
 use Rattle.update_core.specs.Collections.{Collection as PlainCollection}
 use Rattle.store_core.specs.declared.entries.Entry.{Entry}
@@ -7,7 +7,7 @@ use Rattle.store_core.specs.Histories.{History}
 use Rattle.store_core.specs.Ports.{with_entries}
 use Rattle.history_core.specs.Discipline.{Lawful}
 use Rattle.history_core.specs.Stands.{StandsFor}
-use Rattle.crew_core.specs.Competing.{HasAppended, HasCollection}
+use Rattle.crew_core.specs.Competing.{HasAppended, HasCollection, HasReader}
 use Rattle.crew_core.specs.Working.{IsWorkersEntry}
 use Rattle.crew.specs.declared.plans.Plan.{Plan}
 use Rattle.crew.specs.Plans.{role_in}
@@ -26,6 +26,10 @@ pub record CrewRan (plan : Plan) (before now : History) : Type 0 where
       (c : PlainCollection) → HasCollection list before.start plan.shard (reverse before.trail) c →
       (older newer : List Entry) → gain ≡ older ++ newer →
       (d : PlainCollection) × HasCollection list before.start plan.shard (reverse (before.trail ++ older)) d × HasAppended plan.appends c d
+  pub readers : (list : List Update) → StandsFor before.start plan.shard list → Lawful before →
+      (member since : ℕ) → HasReader plan.shard member since before.start (reverse before.trail) →
+      (older newer : List Entry) → gain ≡ older ++ newer →
+      HasReader plan.shard member since before.start (reverse (before.trail ++ older))
 
 -- the same where the history is told
 abbrev pub CrewRanOn : Plan → Option History → Option History → Type 0

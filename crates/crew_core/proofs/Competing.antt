@@ -86,7 +86,7 @@ alike us us2 s t a b c d = go us us2 s.since t.since s.upper t.upper s.weight t.
     go : (us us2 : List Update) (a b : ℕ) (c d : Option ℕ) (e f : ℕ) → us ≡ us2 → a ≡ b → c ≡ d → e ≡ f → make us a c e ≡ make us2 b d f
     go us us2 a b c d e f p q r s = cc
 
-same_version : (o : Option (ShardState × Transition)) (s t : ShardState) (x y : Transition) → o ≡ Some (s, x) → o ≡ Some (t, y) →
+pub same_version : (o : Option (ShardState × Transition)) (s t : ShardState) (x y : Transition) → o ≡ Some (s, x) → o ≡ Some (t, y) →
     (s ≡ t) × (x ≡ y)
 same_version o s t x y h g = let e : (s, x) ≡ (t, y) = cc in
     (ap (λ (p : ShardState × Transition). p.0) e, ap (λ (p : ShardState × Transition). p.1) e)
@@ -131,7 +131,7 @@ abbrev turned : Stored → List Entry → History
 turned start es = record { start = start; trail = reverse es }
 
 -- a member that a client joined as a kind is of it where it stands
-own_kind : (kind : Kind) (start : Stored) (shard : ShardId) (list : List Update) (es : List Entry) → StandsFor start shard list →
+pub own_kind : (kind : Kind) (start : Stored) (shard : ShardId) (list : List Update) (es : List Entry) → StandsFor start shard list →
     LawfulBack start es → (c member : ℕ) →
     JoinedAs kind (mine_back start es c) shard member → (n : ℕ) (s : ShardState) → LastIs (replay_back start es) shard n s →
     AllByRecursion (λ m. m.number ≡ member → m.kind ≡ kind) s.members

@@ -10,13 +10,14 @@ use Rattle.store_core.specs.Histories.{History}
 use Rattle.turnstile.specs.Plays.{EachIn}
 use Rattle.turnstile.specs.Rule.{times}
 use Rattle.shared_store.specs.Trails.{entry_client}
-use Rattle.crew_core.specs.Competing.{CompetingAppends, MergesLeave, WorkersLawful}
+use Rattle.crew_core.specs.Competing.{CompetingAppends, HasReader, MergesLeave, ReadersStay, WorkersLawful}
 use Rattle.crew_core.specs.KeepingOn.{KeptPastACall, KeptPastOthers, KeptTwice}
 use Rattle.crew_core.specs.declared.jobs.Job.{Job}
 use Rattle.crew_core.specs.Keeping.{Keeps}
 use Rattle.crew_core.specs.Working.{IsWorkersEntry, role_of}
 use Rattle.crew_core.proofs.Along.{goes}
 use Rattle.crew_core.proofs.Competing.{Come, come_none, come_on, merges_stay}
+use Rattle.crew_core.proofs.Readers.{reads_on}
 use Rattle.crew_core.proofs.Keeping.{on_both, on_gains, on_others}
 
 each_in : (clients : List (ℕ × List Entry)) (gain : List Entry) → EachIn entry_client clients gain →
@@ -48,6 +49,13 @@ competing_law jobs appends shard list clients h gain follow st l w before has =
     gain h st l (λ n k. keeps_as jobs appends shard n h gain (w.each_keeps n k)) (each_in clients gain w.each_of)
     (come_none appends follow shard list before h.start (reverse h.trail) has)).along in
     (c.now, c.has, c.appended)
+
+pub readers_law : ReadersStay
+readers_law jobs appends shard list clients h gain st l w member since there =
+    (goes (IsCrewsEntry jobs appends shard) shard list (λ n. 0 < times n clients) (HasReader shard member since)
+    (λ start es e p. p.allowed)
+    (λ start es e s b p stands. reads_on member since appends shard list start es e s b (jobs e.client) p stands)
+    gain h st l (λ n k. keeps_as jobs appends shard n h gain (w.each_keeps n k)) (each_in clients gain w.each_of) there).along
 
 pub others_law : KeptPastOthers
 others_law role shard client front now g = on_others (IsWorkersEntry role shard) shard client front now g

@@ -1,15 +1,13 @@
 -- The appends of a feed from a frontier on.
-use Rattle.std.proofs.Common.{◌≡◌, ℕ, ◌+◌, ◌<◌, ◌≤◌, true, false, Option, Some, None, List, [], ◌∷◌, ◌++◌, ◌⊎◌, inl, inr, refl, sym, ap}
-use Rattle.std.proofs.Common.{subst, ◌∙◌, arith, append_assoc, append-nil}
+use Rattle.std.proofs.Common.{◌≡◌, ℕ, ◌<◌, ◌≤◌, true, false, Option, Some, None, List, [], ◌∷◌, ◌++◌, ◌⊎◌, inl, inr, refl, sym, ap}
+use Rattle.std.proofs.Common.{subst, ◌∙◌, arith}
 use Rattle.std.specs.Prelude.{◌==◌, nat_lt}
 use Rattle.std.proofs.lemmas.Bool.Decides.{nat_tests}
-use Rattle.update_core.specs.declared.updates.Update.{Update}
 use Rattle.update_core.specs.declared.appends.FeedAppend.{FeedAppend}
 use Rattle.update_core.specs.Frontiers.{covers, is_at}
-use Rattle.update_core.specs.Updates.{cons, weight_of}
 use Rattle.state_core.specs.Lists.{Among}
 use Rattle.state_core.proofs.ListLemmas.{bool_cases}
-use Rattle.appends_core.specs.Feeds.{FollowOn, end_from, from_upper, rows_of, weight_of_all}
+use Rattle.appends_core.specs.Feeds.{FollowOn, end_from, from_upper}
 
 some_is : (a b : ℕ) → Some a ≡ Some b → a ≡ b
 some_is a b e = cc

@@ -8,5 +8,6 @@ pub mod CrewLaws
 mod Examples
 mod FeedLaws
 pub mod Keeping
+mod Readers
 mod Splits
 mod WorkedCrew

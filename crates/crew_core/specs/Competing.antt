@@ -10,14 +10,17 @@ use Rattle.store_core.specs.Histories.{History}
 use Rattle.store_core.specs.Ports.{with_entries}
 use Rattle.store_core.specs.Newest.{mine_back, replay_back}
 use Rattle.spine_core.specs.declared.batches.Batch.{Batch}
+use Rattle.state_core.specs.declared.kinds.Kind.TheVariants.{Reader}
 use Rattle.state_core.specs.declared.transitions.Transition.{Transition}
 use Rattle.state_core.specs.declared.transitions.Transition.TheVariants.{Merge}
 use Rattle.state_core.specs.States.{ShardState}
+use Rattle.state_core.specs.Steps.{Stands}
 use Rattle.state_core.specs.VersionReading.{version_in}
 use Rattle.turnstile.specs.Plays.{EachIn}
 use Rattle.turnstile.specs.Rule.{times}
 use Rattle.shared_store.specs.Trails.{entry_client}
 use Rattle.history_core.specs.Discipline.{Lawful, LawfulBack}
+use Rattle.history_core.specs.Laws.{LastIs}
 use Rattle.history_core.specs.Legal.{AcceptedAt, CollectionIs}
 use Rattle.history_core.specs.Placing.{Commits, placed}
 use Rattle.history_core.specs.Stands.{StandsFor, accepted}
@@ -41,6 +44,12 @@ pub record HasAppended (appends : List FeedAppend) (c d : PlainCollection) : Typ
   pub upper : d.upper ≡ end_from c.upper done
   pub weight : d.weight ≡ c.weight + weight_of_all done
   pub since : d.since ≡ c.since
+
+-- a reader of this number, with this since, stands in the shard's last version
+abbrev pub HasReader : ShardId → ℕ → ℕ → Stored → List Entry → Type 0
+HasReader shard member since start es =
+    (n : ℕ) × (s : ShardState) × LastIs (replay_back start es) shard n s ×
+    Stands member (λ m. (m.kind ≡ Reader) × (m.since ≡ since)) s.members
 
 -- These entries have come to a history from workers: each is of a client among these, and each of these clients kept what a worker with
 -- its job keeps.
@@ -67,6 +76,14 @@ CompetingAppends =
     FromWorkers jobs appends shard clients h gain →
     (before : PlainCollection) → HasCollection list h.start shard (reverse h.trail) before →
     (after : PlainCollection) × HasCollection list h.start shard (reverse (h.trail ++ gain)) after × HasAppended appends before after
+
+-- A reader that stands goes on standing, with its since: no worker removes it.
+abbrev pub ReadersStay : Type 0
+ReadersStay =
+    (jobs : ℕ → Job) (appends : List FeedAppend) (shard : ShardId) (list : List Update) (clients : List (ℕ × List Entry))
+    (h : History) (gain : List Entry) → StandsFor h.start shard list → Lawful h → FromWorkers jobs appends shard clients h gain →
+    (member since : ℕ) → HasReader shard member since h.start (reverse h.trail) →
+    HasReader shard member since h.start (reverse (h.trail ++ gain))
 
 -- An entry that commits one of these appends, with parts that its own client stored, is accepted with the append's rows, however the
 -- entry was answered.

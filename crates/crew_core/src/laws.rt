@@ -1,5 +1,5 @@
 // Laws of what workers do together, each the contract of a function that does nothing. docs/DEFINITIONS.md, "Crews".
-ghost use Rattle.crew_core.specs.Competing.{CompetingAppends, MergesLeave, StorersCommitAccepted, WorkersLawful};
+ghost use Rattle.crew_core.specs.Competing.{CompetingAppends, MergesLeave, ReadersStay, StorersCommitAccepted, WorkersLawful};
 ghost use Rattle.crew_core.specs.Completing.{BoundStays, CompleteFromEmpty, CompleteIsPlain};
 ghost use Rattle.crew_core.specs.KeepingOn.{KeptPastACall, KeptPastOthers, KeptTwice};
 
@@ -25,6 +25,12 @@ pub fn workers_lawful()
 /// ending later than it begins. Nothing of their rows or weights. (docs/DEFINITIONS.md, "Crews".)
 pub fn competing_appends()
     ensures { CompetingAppends }
+{}
+
+/// And a reader that stood before stands afterwards, with the same since. Supposes what `workers_lawful` does; nothing of whose member it
+/// is. (docs/DEFINITIONS.md, "Crews".)
+pub fn readers_stay()
+    ensures { ReadersStay }
 {}
 
 /// A commit of one of these appends by the client that stored its parts is accepted with the append's rows, also where its answer was

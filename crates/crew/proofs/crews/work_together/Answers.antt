@@ -2,7 +2,6 @@ use Rattle.std.proofs.Common.{◌≡◌, ℕ, ◌^◌, ap, subst, ◌∙◌, ari
 use Rattle.std.proofs.Common.{List, [], ◌∷◌, ◌+◌, ◌≤◌, length, sym}
 use Rattle.std.specs.List.{AllByRecursion}
 use Rattle.update_core.specs.declared.appends.FeedAppend.{FeedAppend}
-use Rattle.appends_core.specs.Feeds.{IsFeed}
 use Rattle.turnstile.specs.declared.views.View.{View}
 use Rattle.turnstile.specs.Passes.{view}
 use Rattle.store_core.specs.declared.entries.Entry.{Entry}

@@ -1,6 +1,5 @@
 use Rattle.turnstile.specs.Passes.{view}
-use Rattle.crew.proofs.Rooms.{more_room, some_room}
-use Rattle.crew.proofs.Seating.{new_still}
+use Rattle.crew.proofs.Rooms.{some_room}
 use Rattle.crew.proofs.seats.+deal.Goals as goal
 
 pub deal_one-pass-requires-clause-some : goal.deal_one-pass-requires-clause-some
