@@ -36,7 +36,7 @@ ends_since words status told told_now early failed failed_now left left_now read
       line = e.line;
       input = e.input;
       output = e.output;
-      store_failed = λ six. ((e.store_failed six).0, (e.store_failed six).1, ((e.store_failed six).2.0, (rose_before early failed failed_now le (e.store_failed six).2.1.0, (e.store_failed six).2.1.1)));
+      store_failed = λ six. ((e.store_failed six).0, (rose_before early failed failed_now le (e.store_failed six).1.0, (e.store_failed six).1.1));
       damaged = e.damaged;
       members_full = e.members_full;
       spent = e.spent;
