@@ -1,9 +1,7 @@
 -- How a command over a store that was just opened ends.
-use Rattle.std.proofs.Common.{not, ◌≡◌, ℕ, ◌≤◌, Bool, true, false, Option, Some, List, [], ◌∷◌, ◌++◌, refl, sym, ap, subst, ◌∙◌}
+use Rattle.std.proofs.Common.{not, ◌≡◌, ℕ, ◌≤◌, Bool, true, false, Option, Some, List, [], refl, sym, ap, subst, ◌∙◌}
 use Rattle.causes.specs.Causes.{Rose}
 use Rattle.store_core.specs.Stores.{Stored}
-use Rattle.store_core.specs.declared.entries.Entry.{Entry}
-use Rattle.store_core.specs.declared.outcomes.Outcome.TheVariants.{Took}
 use Rattle.store_core.specs.Histories.{History}
 use Rattle.journal_core.specs.declared.disks.Disk.{Ghosts}
 use Rattle.driving.specs.StoreTurns.{EndsInFailure, Extends}

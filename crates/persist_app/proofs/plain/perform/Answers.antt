@@ -1,4 +1,4 @@
-use Rattle.std.proofs.Common.{Ok, Option, Some, inl, inr, refl, sym, ap, map, string_bytes, subst, ◌∙◌}
+use Rattle.std.proofs.Common.{Ok, Option, Some, inl, inr, refl, ap, map, string_bytes, subst, ◌∙◌}
 use Rattle.std.specs.Prelude.{IfSome}
 use Rattle.store_core.specs.declared.shards.ShardId.{ShardId}
 use Rattle.plain_run.specs.Endings.{StaysLawful}
