@@ -1,9 +1,7 @@
 -- How a command over a store that was just opened ends.
-use Rattle.std.proofs.Common.{not, ◌≡◌, ℕ, ◌≤◌, Bool, true, false, Option, Some, List, [], ◌∷◌, ◌++◌, refl, sym, ap, subst, ◌∙◌}
+use Rattle.std.proofs.Common.{not, ◌≡◌, ℕ, ◌≤◌, Bool, true, false, Option, Some, List, [], refl, sym, ap, subst, ◌∙◌}
 use Rattle.causes.specs.Causes.{Rose}
 use Rattle.store_core.specs.Stores.{Stored}
-use Rattle.store_core.specs.declared.entries.Entry.{Entry}
-use Rattle.store_core.specs.declared.outcomes.Outcome.TheVariants.{Took}
 use Rattle.store_core.specs.Histories.{History}
 use Rattle.journal_core.specs.declared.disks.Disk.{Ghosts}
 use Rattle.driving.specs.StoreTurns.{EndsInFailure, Extends}
@@ -36,7 +34,7 @@ ends_since words status told told_now early failed failed_now left left_now read
       line = e.line;
       input = e.input;
       output = e.output;
-      store_failed = λ six. ((e.store_failed six).0, (e.store_failed six).1, ((e.store_failed six).2.0, (rose_before early failed failed_now le (e.store_failed six).2.1.0, (e.store_failed six).2.1.1)));
+      store_failed = λ six. ((e.store_failed six).0, (rose_before early failed failed_now le (e.store_failed six).1.0, (e.store_failed six).1.1));
       damaged = e.damaged;
       members_full = e.members_full;
       spent = e.spent;

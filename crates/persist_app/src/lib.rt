@@ -8,6 +8,7 @@ mod disk_statuses;
 mod ends;
 mod on_disk;
 mod plain;
+mod served;
 mod statuses;
 mod system_clocks;
 mod watched;

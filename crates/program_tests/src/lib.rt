@@ -7,3 +7,5 @@ mod deaf_stores;
 mod disks;
 #[cfg(test)]
 mod programs;
+#[cfg(test)]
+mod schedules;

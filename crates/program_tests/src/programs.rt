@@ -34,15 +34,19 @@ fn words_of(alloc: Global, text: &str) -> Result<Vec<String>, AllocError> {
 
 // What a call reads and writes, and where its reads and puts fail.
 #[derive(Drop)]
-struct Case<'a> {
-    words: &'a str,
-    feed: &'a [u8],
-    reads: &'a [u64],
-    puts: &'a [u64],
+pub struct Case<'a> {
+    pub words: &'a str,
+    pub feed: &'a [u8],
+    pub reads: &'a [u64],
+    pub puts: &'a [u64],
 }
 
 // What a call over a store gives back, and what was written.
-fn ended<S: Store>(alloc: Global, case: &Case<'_>, store: S) -> Result<(Ended<S>, Vec<u8>), Fail>
+pub fn ended<S: Store>(
+    alloc: Global,
+    case: &Case<'_>,
+    store: S,
+) -> Result<(Ended<S>, Vec<u8>), Fail>
 where
     S: Drop,
 {
@@ -256,8 +260,11 @@ fn other_words_are_no_command(rt: HostRuntime) -> Result<(), Fail> {
         "Run",
         "ru",
         "ingest",
-        "steps",
+        "gen 0 1",
         "steps help",
+        "steps --",
+        "steps --shard=X",
+        "steps --shard=00000000000000000000000000000002 --shard=00000000000000000000000000000002",
         "reclock --operators 1",
         "--",
     ] {

@@ -1,7 +1,10 @@
-use Rattle.std.proofs.Common.{◌≡◌, map, string_bytes, ap, subst, List, Option, None, ℕ}
+use Rattle.std.proofs.Common.{◌≡◌, map, string_bytes, ap, subst, List, Option, Some, None, ℕ}
 use Rattle.feed_text.specs.Streams.{Gains}
-use Rattle.persist_app.specs.Endings.{NoRun, Performs, input_failed_text, words_text}
-use Rattle.persist_app.proofs.Performed.{input_failed, line_refused, performed_as, run_complete, spared}
+use Rattle.plain_run.specs.declared.endings.Ending.TheVariants as endings
+use Rattle.plain_run.specs.Endings.{StaysLawful}
+use Rattle.store_core.specs.declared.shards.ShardId.{ShardId}
+use Rattle.persist_app.specs.Endings.{IsServed, NoCommand, Performs, input_failed_text, words_text}
+use Rattle.persist_app.proofs.Performed.{completed, found_full, input_failed, line_refused, performed_as, spared}
 use Rattle.persist_app.proofs.plain.persist_plain.Goals as goal
 
 pub returns-clause-complete : goal.returns-clause-complete
@@ -18,7 +21,7 @@ returns-clause-complete g c = λ status.
     let performed = subst (λ (ws : List (List ℕ)). Performs ws c.perform-ending.result told told_now (left c.args.src.now) (left src)
     (faults c.args.src.now) (faults src) (taken c.args.out.now) (taken out) (puts c.args.out.now) (puts out))
     (ap (map string_bytes) c.deref.ensures.value) c.perform-ending.ensures.ends in
-    run_complete (map string_bytes c.args.words.now.items) c.perform-ending.result told told_now (left c.args.src.now) (left src)
+    completed (map string_bytes c.args.words.now.items) c.perform-ending.result told told_now (left c.args.src.now) (left src)
     (faults c.args.src.now) (faults src) (taken c.args.out.now) (taken out) (puts c.args.out.now) (puts out) performed
     (taken c.finish.new.out) finished.0 finished.1
 
@@ -58,6 +61,80 @@ returns-clause-input g c = λ status.
     (faults c.args.src.now) (faults src) (taken c.args.out.now) (taken out) (puts c.args.out.now) (puts out) performed
     (taken c.finish.new.out) input_failed_text finished.0 finished.1
 
+pub returns-clause-store_failed : goal.returns-clause-store_failed
+returns-clause-store_failed g c = λ status.
+    let finished = c.finish.ensures.store status in
+    let told = g.S.Store.history c.args.store in
+    let told_now = g.S.Store.history c.perform-ending.new.port.store in
+    let left = g.So.Source.left in
+    let faults = g.So.Source.faults in
+    let taken = g.Si.Sink.taken in
+    let puts = g.Si.Sink.faults in
+    let src = c.perform-ending.new.src in
+    let out = c.perform-ending.new.out in
+    let performed = subst (λ (ws : List (List ℕ)). Performs ws c.perform-ending.result told told_now (left c.args.src.now) (left src)
+    (faults c.args.src.now) (faults src) (taken c.args.out.now) (taken out) (puts c.args.out.now) (puts out))
+    (ap (map string_bytes) c.deref.ensures.value) c.perform-ending.ensures.ends in (
+      performed_as (map string_bytes c.args.words.now.items) c.perform-ending.result told told_now (left c.args.src.now) (left src)
+          (faults c.args.src.now) (faults src) (taken c.args.out.now) (taken out) (puts c.args.out.now) (puts out) performed
+          (Some endings.StoreFailed) finished.0,
+      c.perform-ending.ensures.failed finished.0,
+    )
+
+pub returns-clause-damaged : goal.returns-clause-damaged
+returns-clause-damaged g c = λ status.
+    let finished = c.finish.ensures.damaged status in
+    let told = g.S.Store.history c.args.store in
+    let told_now = g.S.Store.history c.perform-ending.new.port.store in
+    let left = g.So.Source.left in
+    let faults = g.So.Source.faults in
+    let taken = g.Si.Sink.taken in
+    let puts = g.Si.Sink.faults in
+    let src = c.perform-ending.new.src in
+    let out = c.perform-ending.new.out in
+    let performed = subst (λ (ws : List (List ℕ)). Performs ws c.perform-ending.result told told_now (left c.args.src.now) (left src)
+    (faults c.args.src.now) (faults src) (taken c.args.out.now) (taken out) (puts c.args.out.now) (puts out))
+    (ap (map string_bytes) c.deref.ensures.value) c.perform-ending.ensures.ends in
+    performed_as (map string_bytes c.args.words.now.items) c.perform-ending.result told told_now (left c.args.src.now) (left src)
+    (faults c.args.src.now) (faults src) (taken c.args.out.now) (taken out) (puts c.args.out.now) (puts out) performed
+    (Some endings.Damaged) finished.0
+
+pub returns-clause-members_full : goal.returns-clause-members_full
+returns-clause-members_full g c = λ status.
+    let finished = c.finish.ensures.full status in
+    let told = g.S.Store.history c.args.store in
+    let told_now = g.S.Store.history c.perform-ending.new.port.store in
+    let left = g.So.Source.left in
+    let faults = g.So.Source.faults in
+    let taken = g.Si.Sink.taken in
+    let puts = g.Si.Sink.faults in
+    let src = c.perform-ending.new.src in
+    let out = c.perform-ending.new.out in
+    let performed = subst (λ (ws : List (List ℕ)). Performs ws c.perform-ending.result told told_now (left c.args.src.now) (left src)
+    (faults c.args.src.now) (faults src) (taken c.args.out.now) (taken out) (puts c.args.out.now) (puts out))
+    (ap (map string_bytes) c.deref.ensures.value) c.perform-ending.ensures.ends in
+    found_full (map string_bytes c.args.words.now.items) c.perform-ending.result told told_now (left c.args.src.now) (left src)
+    (faults c.args.src.now) (faults src) (taken c.args.out.now) (taken out) (puts c.args.out.now) (puts out) performed
+    finished.0
+
+pub returns-clause-spent : goal.returns-clause-spent
+returns-clause-spent g c = λ status.
+    let finished = c.finish.ensures.spent status in
+    let told = g.S.Store.history c.args.store in
+    let told_now = g.S.Store.history c.perform-ending.new.port.store in
+    let left = g.So.Source.left in
+    let faults = g.So.Source.faults in
+    let taken = g.Si.Sink.taken in
+    let puts = g.Si.Sink.faults in
+    let src = c.perform-ending.new.src in
+    let out = c.perform-ending.new.out in
+    let performed = subst (λ (ws : List (List ℕ)). Performs ws c.perform-ending.result told told_now (left c.args.src.now) (left src)
+    (faults c.args.src.now) (faults src) (taken c.args.out.now) (taken out) (puts c.args.out.now) (puts out))
+    (ap (map string_bytes) c.deref.ensures.value) c.perform-ending.ensures.ends in
+    performed_as (map string_bytes c.args.words.now.items) c.perform-ending.result told told_now (left c.args.src.now) (left src)
+    (faults c.args.src.now) (faults src) (taken c.args.out.now) (taken out) (puts c.args.out.now) (puts out) performed
+    (Some endings.Spent) finished.0
+
 pub returns-clause-no_command : goal.returns-clause-no_command
 returns-clause-no_command g c = λ status.
     let finished = c.finish.ensures.no_command status in
@@ -78,7 +155,7 @@ returns-clause-no_command g c = λ status.
 
 pub returns-clause-idle : goal.returns-clause-idle
 returns-clause-idle g c =
-    subst (λ (ws : List (List ℕ)). NoRun ws → (c.perform-ending.new.port.store ≡ c.args.store) × (c.perform-ending.new.src ≡ c.args.src.now))
+    subst (λ (ws : List (List ℕ)). NoCommand ws → (c.perform-ending.new.port.store ≡ c.args.store) × (c.perform-ending.new.src ≡ c.args.src.now))
     (ap (map string_bytes) c.deref.ensures.value) c.perform-ending.ensures.idle
 
 pub returns-clause-untouched : goal.returns-clause-untouched
@@ -88,3 +165,9 @@ returns-clause-untouched g c =
     let out = c.perform-ending.new.out in
     spared c.perform-ending.result c.finish.result (taken out) (taken c.finish.new.out) (puts out) (puts c.finish.new.out) c.args.store
     c.perform-ending.new.port.store c.finish.ensures c.perform-ending.ensures.spares
+
+pub returns-clause-lawful : goal.returns-clause-lawful
+returns-clause-lawful g c =
+    subst (λ (ws : List (List ℕ)). (shard : ShardId) → IsServed ws shard →
+    StaysLawful shard (g.S.Store.history c.args.store) (g.S.Store.history c.perform-ending.new.port.store))
+    (ap (map string_bytes) c.deref.ensures.value) c.perform-ending.ensures.lawful
