@@ -1,5 +1,5 @@
 -- Only a call that was answered ends a command, of each kind of client.
-use Rattle.std.proofs.Common.{◌≡◌, inl, inr, Option, Some, None, true, false, refl, sym, subst, ◌∙◌}
+use Rattle.std.proofs.Common.{◌≡◌, inl, inr, Option, None, true, false, sym, subst, ◌∙◌}
 use Rattle.std.specs.Prelude.{IsSome}
 use Rattle.store_core.specs.declared.shards.ShardId.{ShardId}
 use Rattle.store_core.specs.declared.calls.Call.{Call}

@@ -12,6 +12,7 @@ use Rattle.machine_core.specs.Machines.{Keeps, Words, shard_of}
 use Rattle.machine_core.proofs.Fronts.{both_where, past_others, there_too}
 use Rattle.machine_core.proofs.Polls.{others_where}
 use Rattle.driving.specs.Goings.{GrowsBy}
+use Rattle.driving.proofs.GoingLaws.{grows_none}
 use Rattle.write_client.specs.Machining as write
 use Rattle.write_client.proofs.Machining as write_proofs
 use Rattle.read_client.specs.Machining as read
@@ -84,6 +85,12 @@ all_wait shard n other p q (c ∷ cs) a b apart few grows f = (
     rest : (other < n) ⊎ (n + length (c ∷ cs) ≤ other) → (other < n + 1) ⊎ (n + 1 + length cs ≤ other)
     rest (inl low) = inl (omega (arith, low))
     rest (inr high) = inr (omega (arith, high))
+
+-- more polls were asked for
+pub all_more : (shard : ShardId) (p q : ℕ) (cs : List Client) (a : Option History) → p ≤ q → AllFit shard p a 0 cs → AllFit shard q a 0 cs
+all_more shard p q cs a few f =
+    let high : 0 + length cs ≤ length cs = omega arith in
+    all_wait shard 0 (length cs) p q cs a a (inr high) few (grows_none (length cs) a) f
 
 -- ---- one of them
 
@@ -166,3 +173,24 @@ pub becomes_none : (how : Client → Client → Type 0) (none : Type 0) (k : ℕ
 becomes_none how none k [] less h = (h, refl)
 becomes_none how none zero (c ∷ cs) less h = absurd (omega (arith, less))
 becomes_none how none (suc k) (c ∷ cs) less h = (cs, becomes_none how none k cs (omega (arith, less)) h, refl)
+
+-- ---- numbered from 0
+
+pub first_fits : (shard : ShardId) (p k : ℕ) (x : Client) (cs : List Client) (a : Option History) → k < length cs → AllFit shard p a 0 cs →
+    ClientFits shard k p a (slice_index_or cs k x)
+first_fits shard p k x cs a less f =
+    let e : 0 + k ≡ k = omega arith in
+    subst (λ (m : ℕ). ClientFits shard m p a (slice_index_or cs k x)) e (fits_at shard 0 p k x cs a less f)
+
+pub first_worked : (shard : ShardId) (p q k : ℕ) (d : Client) (cs : List Client) (a b : Option History) → k < length cs → p ≤ q → GrowsBy k a b →
+    ClientFits shard k q b d → AllFit shard p a 0 cs → AllFit shard q b 0 (slice_set cs k d)
+first_worked shard p q k d cs a b less few grows fit f =
+    let e : k ≡ 0 + k = omega arith in
+    worked shard 0 p q k d cs a b less few (subst (λ (m : ℕ). GrowsBy m a b) e grows) (subst (λ (m : ℕ). ClientFits shard m q b d) e fit) f
+
+pub first_begun : (shard : ShardId) (p k : ℕ) (x d : Client) (cs : List Client) (a : Option History) →
+    (ClientFits shard k p a (slice_index_or cs k x) → ClientFits shard k p a d) → AllFit shard p a 0 cs → AllFit shard p a 0 (slice_set cs k d)
+first_begun shard p k x d cs a goes f =
+    let e : 0 + k ≡ k = omega arith in
+    begun shard 0 p k x d cs a (λ h. subst (λ (m : ℕ). ClientFits shard m p a d) (sym e)
+    (goes (subst (λ (m : ℕ). ClientFits shard m p a (slice_index_or cs k x)) e h))) f

@@ -1,5 +1,5 @@
 -- What a line does, said of its kind.
-use Rattle.std.proofs.Common.{◌≡◌, ℕ, ◌+◌, ◌<◌, Option, Result, Ok, Err, List, length, refl, sym, ap, subst, ◌∙◌, arith}
+use Rattle.std.proofs.Common.{◌≡◌, ℕ, Option, Result, Ok, Err, List, refl, sym, subst, ◌∙◌}
 use Rattle.std.specs.Prelude.{IfOk, OnOk}
 use Rattle.update_core.specs.declared.updates.Update.{Update}
 use Rattle.store_core.specs.declared.shards.ShardId.{ShardId}
@@ -18,7 +18,7 @@ use Rattle.step_run.specs.declared.step_faults.StepFault.{StepFault}
 use Rattle.step_run.specs.declared.step_faults.StepFault.TheVariants as faults
 use Rattle.step_run.specs.Begins.{FailsForMemory}
 use Rattle.step_run.specs.Faults.{FailedBy}
-use Rattle.step_run.specs.Lines.{BeginsAt, Does, Heads, MakesAt, OrFails, Sitting, StepsAt, made_of, polls_of}
+use Rattle.step_run.specs.Lines.{BeginsAt, Does, Heads, MakesAt, OrFails, Sitting, StepsAt}
 
 pub on_ok_so : {A P Q : Type 0} → (r : Result A StepFault) → (P → Q) → OnOk r P → OnOk r Q
 on_ok_so (Ok a) so p = so p
@@ -39,31 +39,31 @@ never_sink (Err fault) h is = absurd (let e : faults.Memory ≡ faults.Sink = sy
 
 module _ (shard : ShardId) (heads : ℕ) (a d : Option History) where
   -- one way of a line is another
-  as : (r : Result Heard StepFault) (how did : Heard → List Update → Stored → List Entry → List Entry → Type 0) →
+  line_as : (r : Result Heard StepFault) (how did : Heard → List Update → Stored → List Entry → List Entry → Type 0) →
       ((heard : Heard) (list : List Update) (start : Stored) (es now : List Entry) → how heard list start es now → did heard list start es now) →
       Goes shard a d (OrFails shard how r) → Goes shard a d (OrFails shard did r)
-  as (Ok heard) how did so went =
+  line_as (Ok heard) how did so went =
       going_so shard a d (OrFails shard how (Ok heard)) (OrFails shard did (Ok heard)) went (λ list start es now bt h. so heard list start es now h)
-  as (Err fault) how did so went = went
+  line_as (Err fault) how did so went = went
 
   pub makes_line : (line : StepLine) (made : Made) (s t : Sitting) (r : Result Heard StepFault) → line ≡ lines.Make made → t.moment ≡ s.moment →
       Goes shard a d (OrFails shard (MakesAt shard s.moment made s.clients t.clients) r) → Goes shard a d (OrFails shard (Does shard heads line s t) r)
   makes_line line made s t r is same went =
       subst (λ (l : StepLine). Goes shard a d (OrFails shard (Does shard heads l s t) r)) (sym is)
-      (as r (MakesAt shard s.moment made s.clients t.clients) (Does shard heads (lines.Make made) s t) (λ heard list start es now h. (h, same)) went)
+      (line_as r (MakesAt shard s.moment made s.clients t.clients) (Does shard heads (lines.Make made) s t) (λ heard list start es now h. (h, same)) went)
 
   pub steps_line : (line : StepLine) (n polls : ℕ) (s t : Sitting) (r : Result Heard StepFault) → line ≡ lines.Step n polls → t.moment ≡ s.moment →
       Goes shard a d (OrFails shard (StepsAt n polls s.clients t.clients) r) → Goes shard a d (OrFails shard (Does shard heads line s t) r)
   steps_line line n polls s t r is same went =
       subst (λ (l : StepLine). Goes shard a d (OrFails shard (Does shard heads l s t) r)) (sym is)
-      (as r (StepsAt n polls s.clients t.clients) (Does shard heads (lines.Step n polls) s t) (λ heard list start es now h. (h, same)) went)
+      (line_as r (StepsAt n polls s.clients t.clients) (Does shard heads (lines.Step n polls) s t) (λ heard list start es now h. (h, same)) went)
 
   pub head_line : (line : StepLine) (s t : Sitting) (r : Result Heard StepFault) → line ≡ lines.Head → t ≡ s →
       Goes shard a d (OrFails shard (λ heard list start es now. Heads shard heads heard start es now) r) →
       Goes shard a d (OrFails shard (Does shard heads line s t) r)
   head_line line s t r is same went =
       subst (λ (l : StepLine). Goes shard a d (OrFails shard (Does shard heads l s t) r)) (sym is)
-      (as r (λ heard list start es now. Heads shard heads heard start es now) (Does shard heads lines.Head s t) (λ heard list start es now h. (h, same)) went)
+      (line_as r (λ heard list start es now. Heads shard heads heard start es now) (Does shard heads lines.Head s t) (λ heard list start es now h. (h, same)) went)
 
 module _ (shard : ShardId) (heads : ℕ) (a : Option History) where
   -- a line that calls nothing

@@ -1,6 +1,6 @@
 -- Each client's open command keeps to its bound past entries of others.
-use Rattle.std.proofs.Common.{◌≡◌, ℕ, ◌+◌, ◌<◌, ◌≤◌, Option, Some, None, List, ◌++◌, length, refl, sym, ap, subst, arith}
-use Rattle.std.specs.Prelude.{⊤, IfSome}
+use Rattle.std.proofs.Common.{◌≡◌, ℕ, ◌+◌, ◌<◌, ◌≤◌, Option, Some, None, List, ◌++◌, length, refl, sym, subst, arith}
+use Rattle.std.specs.Prelude.{IfSome}
 use Rattle.update_core.specs.declared.updates.Update.{Update}
 use Rattle.store_core.specs.declared.entries.Entry.{Entry}
 use Rattle.store_core.specs.Ports.{OfOthers}
@@ -19,7 +19,6 @@ use Rattle.read_client.specs.declared.questions.Question.{Question}
 use Rattle.read_client.specs.Machining as read
 use Rattle.read_client.specs.Polling as reading
 use Rattle.read_client.specs.Reading.{question}
-use Rattle.merge_client.specs.declared.compactors.Compactor.{Compactor}
 use Rattle.merge_client.specs.declared.dues.Due.{Due}
 use Rattle.merge_client.specs.declared.pairs.Pair.{Pair}
 use Rattle.merge_client.specs.Following.{FollowsAsked, FollowsMerge}
@@ -80,7 +79,7 @@ merges_past client c start others es list of is_open sound follows cost = λ lt.
         called : (c.asked ≡ Some asks.Merge) → c.reading.asked ≡ None → c.pair ≡ Some p → 0 < c.storing.trying.calls
         called asked none got =
             let (m, named, both) = some_is (λ m. (0 < c.token) × FollowsMerge client c start es m c.reading.asked c.pair) c.member
-            (subst (FollowsAsked client c start es) asked follows.asked) in
+            (subst (FollowsAsked client c start es) asked follows.follows.asked) in
             let f = subst (λ (o : Option Pair). FollowsMerge client c start es m None o) got
             (subst (λ (o : Option Due). FollowsMerge client c start es m o c.pair) none both.1) in
             f.called
@@ -92,7 +91,7 @@ merges_past client c start others es list of is_open sound follows cost = λ lt.
     three : c.reading.asked ≡ None → c.pair ≡ None → c.storing.trying.calls ≡ 0 → 3 ≤ base_of c.storing.trying.step
     three none undrafted begun =
         let (asked, busy) = is_there c.asked is_open in
-        at asked (asks_of client c start es asked busy none undrafted follows)
+        at asked (asks_of client c start es asked busy none undrafted follows.follows)
       where
         at : (asked : Asked) → Asks client c start es asked → 3 ≤ base_of c.storing.trying.step
         at asked (opens shard now lease is here_is t) = subst (λ (x : Transition). 3 ≤ base_of x) (sym t.step) (omega arith)

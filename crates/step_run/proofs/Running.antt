@@ -1,16 +1,13 @@
 -- The lines of a schedule in turn, over a store that nobody else calls.
-use Rattle.std.proofs.Common.{◌≡◌, ℕ, ◌+◌, Option, Some, None, Result, Ok, Err, List, [], ◌∷◌, ◌++◌, length, refl, sym, ap, subst, ◌∙◌, append_assoc}
-use Rattle.std.specs.Prelude.{⊤}
+use Rattle.std.proofs.Common.{◌≡◌, ℕ, Option, Ok, Err, List, [], ◌∷◌, ◌++◌, length, refl, sym, ap, subst, ◌∙◌, append_assoc}
 use Rattle.std.proofs.lemmas.List.{append-nil}
 use Rattle.update_core.specs.declared.updates.Update.{Update}
 use Rattle.store_core.specs.declared.shards.ShardId.{ShardId}
 use Rattle.store_core.specs.declared.entries.Entry.{Entry}
 use Rattle.store_core.specs.Stores.{Stored}
 use Rattle.store_core.specs.Histories.{History}
-use Rattle.state_core.specs.VersionReading.{most}
 use Rattle.feed_text.specs.Streams.{Gains}
 use Rattle.feed_text.proofs.Streams.{Gains-none, Gains-append}
-use Rattle.driving.specs.Drives.{Scanned}
 use Rattle.driving.specs.Goings.{Goes}
 use Rattle.driving.proofs.GoingLaws.{Between, going_so, more_going, no_going}
 use Rattle.step_text.specs.declared.step_lines.StepLine.{StepLine}
@@ -19,8 +16,17 @@ use Rattle.step_run.specs.declared.heard.Heard.{Heard}
 use Rattle.step_run.specs.declared.step_faults.StepFault.{StepFault}
 use Rattle.step_run.specs.declared.step_faults.StepFault.TheVariants as faults
 use Rattle.step_run.specs.Executing.{ExecutesTo, LinesOf, Writes, nobody}
-use Rattle.step_run.specs.Faults.{FailedBy}
-use Rattle.step_run.specs.Lines.{Does, OrFails, Sitting, heard_text}
+use Rattle.step_run.specs.Faults.{FailedBy, FailsWriting}
+use Rattle.step_run.specs.Lines.{Does, Sitting, heard_text}
+
+-- what can fail while something is written says nothing of the history
+pub writing_fails : (shard : ShardId) (fault : StepFault) → FailsWriting {A = Unit} (Err fault) → (start : Stored) (es now : List Entry) →
+    FailedBy shard fault start es now
+writing_fails shard faults.Memory h start es now = tt
+writing_fails shard faults.Sink h start es now = tt
+writing_fails shard faults.Store h start es now = absurd h
+writing_fails shard faults.Damaged h start es now = absurd h
+writing_fails shard faults.Spent h start es now = absurd h
 
 module _ (shard : ShardId) where
   -- a fault since later entries is one since earlier ones
@@ -79,9 +85,11 @@ module _ (shard : ShardId) where
       subst (λ (ls : List StepLine). LinesOf shard schedule.names ls mid mid [] list start fs fs) (sym none) (refl, refl, refl) in (
         come.0,
         come.1,
-        mid,
-        subst (λ (t : List ℕ). LinesOf shard schedule.names schedule.lines nobody mid t list start es fs) (append-nil come.0)
-            (come.2 mid [] fs here),
+        (
+          mid,
+          subst (λ (t : List ℕ). LinesOf shard schedule.names schedule.lines nobody mid t list start es fs) (append-nil come.0)
+              (come.2 mid [] fs here),
+        ),
       ))
 
   -- a line that failed

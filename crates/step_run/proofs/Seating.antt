@@ -1,17 +1,16 @@
 -- What a line does to the list of clients, over a store that nobody else calls.
-use Rattle.std.proofs.Common.{◌≡◌, ◌≢◌, ℕ, ◌+◌, ◌<◌, ◌≤◌, inl, inr, Option, Some, None, Result, Ok, Err, List, [], ◌∷◌, ◌++◌, length, refl, sym, ap, subst, ◌∙◌, arith}
-use Rattle.std.specs.Prelude.{⊤, IfSome, reverse, slice_index_or, slice_set}
+use Rattle.std.proofs.Common.{◌≡◌, ℕ, ◌+◌, ◌<◌, ◌≤◌, inr, Option, Some, None, Ok, List, [], ◌∷◌, ◌++◌, length, refl, sym, ap, subst, arith}
+use Rattle.std.specs.Prelude.{⊤, slice_index_or, slice_set}
 use Rattle.update_core.specs.declared.updates.Update.{Update}
 use Rattle.store_core.specs.declared.shards.ShardId.{ShardId}
 use Rattle.store_core.specs.declared.versions.Version.{Version}
-use Rattle.store_core.specs.declared.calls.Call.{Call}
 use Rattle.store_core.specs.declared.calls.Call.TheVariants as calls
 use Rattle.store_core.specs.declared.replies.Reply.{Reply}
 use Rattle.store_core.specs.declared.replies.Reply.TheVariants as replies
 use Rattle.store_core.specs.declared.entries.Entry.{Entry}
 use Rattle.store_core.specs.Stores.{Stored}
-use Rattle.store_core.specs.Histories.{Adds, History, reply}
-use Rattle.store_core.specs.Newest.{mine_back, replay_back}
+use Rattle.store_core.specs.Histories.{Adds, History}
+use Rattle.store_core.specs.Newest.{mine_back}
 use Rattle.history_core.specs.Discipline.{Allows}
 use Rattle.load_core.specs.Fronts.{Backwards, WhereLawful}
 use Rattle.driving.specs.Goings.{Goes, GrowsBy}
@@ -24,7 +23,7 @@ use Rattle.step_run.specs.declared.heard.Heard.TheVariants as hears
 use Rattle.step_run.specs.declared.sayings.Saying.{Saying}
 use Rattle.step_run.specs.declared.step_faults.StepFault.{StepFault}
 use Rattle.step_run.specs.declared.stepping.Stepped.{Stepped}
-use Rattle.step_run.specs.Clients.{AllFit, Becomes, ClientFits}
+use Rattle.step_run.specs.Clients.{AllFit, ClientFits}
 use Rattle.step_run.specs.Faults.{FailedBy}
 use Rattle.step_run.specs.Lines.{Heads, MakesAt, OrFails, StepsAt, StepsOne}
 use Rattle.step_run.specs.Makes.{Makes, MakesTo}

@@ -1,5 +1,5 @@
 -- What was read of a source's text tells what the whole text is.
-use Rattle.std.proofs.Common.{◌≡◌, ◌⊎◌, inl, inr, ℕ, ◌+◌, ◌<◌, ◌≤◌, Option, Some, None, List, [], ◌++◌, length, take, refl, sym, ap, subst, ◌∙◌, arith, ⊎_elim, take-take}
+use Rattle.std.proofs.Common.{◌≡◌, inl, inr, ℕ, ◌+◌, ◌<◌, ◌≤◌, Option, Some, None, List, [], ◌++◌, length, take, refl, sym, ap, subst, ◌∙◌, arith, ⊎_elim, take-take}
 use Rattle.std.specs.Prelude.{⊤}
 use Rattle.std.proofs.lemmas.Bool.{cases_lt}
 use Rattle.std.proofs.lemmas.List.{append-nil, length-take, take_at}
@@ -78,6 +78,7 @@ pub steps_from_text : (shard : ShardId) (ending : Ending) (told told_now : Optio
     (taken taken_now : Option (List ℕ)) (reads reads_now puts puts_now : ℕ) → TakesAll (MAX_BYTES + 1) left now text →
     AnswersText shard ending told told_now text taken taken_now puts puts_now →
     EndsSteps shard ending told told_now left now reads reads_now taken taken_now puts puts_now
+unfolding schedule_read
 steps_from_text shard endings.Complete told told_now left now text taken taken_now reads reads_now puts puts_now took answered = record {
   read = schedule_read left now text answered.0 took answered.1;
   written = answered.2;

@@ -1,5 +1,5 @@
 -- The clients of a schedule, and what is known of them between two lines. Entries go newest first.
-use Rattle.std.specs.Prelude.{⊤, ◌≡◌, ℕ, suc, zero, ◌+◌, ◌≤◌, Option, Some, None, List, [], ◌∷◌}
+use Rattle.std.specs.Prelude.{⊤, ◌≡◌, ℕ, suc, zero, ◌+◌, ◌≤◌, Option, List, [], ◌∷◌}
 use Rattle.store_core.specs.declared.shards.ShardId.{ShardId}
 use Rattle.store_core.specs.Histories.{History}
 use Rattle.machine_core.specs.Machines.{Words, shard_of}

@@ -1,5 +1,5 @@
 -- How a schedule ends, before its last line is written.
-use Rattle.std.specs.Prelude.{⊤, ◌≡◌, ◌≤◌, ℕ, Option, List}
+use Rattle.std.specs.Prelude.{⊤, ◌≡◌, ℕ, Option, List}
 use Rattle.causes.specs.Causes.{Rose}
 use Rattle.store_core.specs.declared.shards.ShardId.{ShardId}
 use Rattle.store_core.specs.Histories.{History}

@@ -1,5 +1,5 @@
 -- What has become of a schedule that isn't executed to its end. Entries go newest first.
-use Rattle.std.specs.Prelude.{⊤, ◌≡◌, List}
+use Rattle.std.specs.Prelude.{⊤, ◌≡◌, Result, Ok, Err, List}
 use Rattle.store_core.specs.declared.shards.ShardId.{ShardId}
 use Rattle.store_core.specs.declared.entries.Entry.{Entry}
 use Rattle.store_core.specs.Stores.{Stored}
@@ -22,3 +22,10 @@ abbrev pub FailedBy : ShardId → StepFault → Stored → List Entry → List E
 FailedBy shard faults.Damaged start es now = ⊥
 FailedBy shard faults.Spent start es now = Scanned shard (λ n s. n ≡ most) start es now
 FailedBy shard _ start es now = ⊤
+
+-- only memory or the sink can have failed
+abbrev pub FailsWriting : {A : Type 0} → Result A StepFault → Type 0
+FailsWriting (Ok a) = ⊤
+FailsWriting (Err faults.Memory) = ⊤
+FailsWriting (Err faults.Sink) = ⊤
+FailsWriting (Err fault) = ⊥

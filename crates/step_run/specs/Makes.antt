@@ -1,5 +1,5 @@
 -- What the making of a client comes to. Entries go newest first.
-use Rattle.std.specs.Prelude.{⊤, ◌≡◌, ℕ, None, Result, Ok, Err, List}
+use Rattle.std.specs.Prelude.{◌≡◌, ℕ, None, Result, Ok, Err, List}
 use Rattle.update_core.specs.declared.updates.Update.{Update}
 use Rattle.store_core.specs.declared.shards.ShardId.{ShardId}
 use Rattle.store_core.specs.declared.entries.Entry.{Entry}

@@ -1,9 +1,11 @@
 // A schedule executed.
 ghost use Rattle.std.specs.Prelude.{◌≡◌, ◌++◌, ◌≤◌, Err, OnOk};
 ghost use Rattle.causes.specs.Causes.{Rose};
+ghost use Rattle.feed_text.specs.Streams.{Gains};
 ghost use Rattle.driving.specs.Goings.{Goes};
 ghost use Rattle.driving.specs.StoreTurns.{StoreFailed};
 ghost use Rattle.step_run.specs.Executing.{ExecutesTo, IsShort, nobody};
+ghost use Rattle.step_run.specs.Faults.{FailsWriting};
 ghost use Rattle.step_run.specs.Lines.{heard_text, name_at, sitting};
 
 use crate::heard::Heard;
@@ -36,6 +38,24 @@ fn print_heard(out: &mut Vec<u8>, names: &[Datum], heard: &Heard) -> Result<(), 
         Heard::Head(last) => print_head(out, last),
         Heard::Nothing => Ok(()),
     }
+}
+
+// Writes the lines of what was heard. The buffer is for use alone.
+fn tell<Si: Sink>(
+    out: &mut Si,
+    buffer: &mut Vec<u8>,
+    names: &[Datum],
+    heard: Heard,
+) -> Result<(), StepFault>
+    ensures gains { OnOk result (Gains (Si.taken out.old) (Si.taken out.new) (heard_text names.now heard)) }
+    ensures fault { FailsWriting result }
+    ensures cause { result ≡ Err StepFault.Sink → Rose (Si.faults out.old) (Si.faults out.new) }
+    ensures later { Si.faults out.old ≤ Si.faults out.new }
+{
+    buffer.clear();
+    print_heard(buffer, names, &heard)?;
+    put_all(out, buffer)?;
+    Ok(())
 }
 
 // The name of the client with this number.
@@ -80,12 +100,10 @@ fn execute_lines<Si: Sink, S: Store>(
     let heads = names.len() as u64;
     let mut lines = VecDeque::from(lines.into_items());
     let mut scene = opening(alloc);
-    let mut text = Vec::new(alloc);
+    let mut buffer = Vec::new(alloc);
     while let Some(line) = lines.pop_front() {
         let heard = execute_line(alloc, &mut scene, line, port, shard, heads)?;
-        text.clear();
-        print_heard(&mut text, names, &heard)?;
-        put_all(out, &text)?;
+        tell(out, &mut buffer, names, heard)?;
     }
     Ok(())
 }

@@ -36,6 +36,3 @@ pub use schedule_runs::steps;
 pub use speakers::Speaker;
 pub use step_faults::StepFault;
 pub use stepping::{Stepped, step};
-
-#[cfg(test)]
-mod tests;

@@ -1,5 +1,5 @@
 // A line of a schedule executed.
-ghost use Rattle.std.specs.Prelude.{◌≡◌, ◌≢◌, ◌+◌, ◌<◌, ◌≤◌, ℕ, Err, IfOk, OnOk, Option, length};
+ghost use Rattle.std.specs.Prelude.{◌≡◌, ◌≢◌, ◌++◌, ◌∷◌, [], ◌+◌, ◌<◌, ◌≤◌, ℕ, Err, IfOk, OnOk, Option, length};
 ghost use Rattle.std.specs.List.{AllByRecursion};
 ghost use Rattle.store_core.specs.declared.shards.ShardId.{ShardId as Shard};
 ghost use Rattle.store_core.specs.Histories.{History};
@@ -12,15 +12,27 @@ ghost use Rattle.step_run.specs.Lines.{BeginsAt, Does, Heads, MakesAt, OrFails, 
 
 use crate::begins::begin;
 use crate::clients::Client;
+use crate::entered::Entered;
 use crate::heard::Heard;
-use crate::makes::make;
 use crate::kinds::step_client;
+use crate::makes::make;
 use crate::scenes::Scene;
 use crate::step_faults::StepFault;
 use driving::SolePort;
 use std::alloc::Global;
 use step_text::{Command, Made, StepLine};
 use store_core::{Call, Reply, ShardId, Store};
+
+// Takes in a client that was made.
+fn seat(clients: &mut Vec<Client>, client: Client) -> Result<(), StepFault>
+    ensures seated { OnOk result (clients.new.items ≡ clients.old.items ++ client ∷ []) }
+    ensures fault { FailsForMemory result }
+{
+    if clients.push(client).is_err() {
+        return Err(StepFault::Memory);
+    }
+    Ok(())
+}
 
 // Makes a client, which gets the next number.
 fn make_next<S: Store>(
@@ -42,14 +54,12 @@ fn make_next<S: Store>(
 {
     let number = clients.as_slice().len() as u64;
     port.client = number;
-    let entered = make(alloc, port, shard, moment, made)?;
-    if clients.push(entered.client).is_err() {
-        return Err(StepFault::Memory);
-    }
+    let Entered { client, said } = make(alloc, port, shard, moment, made)?;
+    seat(clients, client)?;
     Ok(Heard::Client {
         number,
         faults: 0,
-        said: entered.said,
+        said,
     })
 }
 

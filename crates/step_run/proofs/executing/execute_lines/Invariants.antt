@@ -1,4 +1,4 @@
-use Rattle.std.proofs.Common.{◌≡◌, ◌≤◌, ◌+◌, ◌*◌, List, ℕ, length}
+use Rattle.std.proofs.Common.{◌≤◌, ◌+◌, ◌*◌, length}
 use Rattle.std.specs.List.{AllByRecursion}
 use Rattle.feed_text.specs.declared.limits.TheConstants.{MAX_COMMANDS}
 use Rattle.step_text.specs.declared.counts.TheConstants.{MAX_POLLS}
@@ -10,7 +10,7 @@ use Rattle.step_run.proofs.executing.execute_lines.Given as goal
 
 abbrev pub invariant-loop-line : goal.invariant-loop-line
 invariant-loop-line g l = record {
-  over : RunOver l.shard (g.S.Store.history l.initial.port.store) (g.S.Store.history l.port.store) l.names l.initial.lines
+  over : RunOver l.shard (g.S.Store.history l.initial.port.store) (g.S.Store.history l.port.store) l.names l.initial.lines.items
       (g.Si.Sink.taken l.initial.out) (g.Si.Sink.taken l.out) l.lines.items (sitting l.scene);
   ready : Ready l.shard (g.S.Store.history l.port.store) l.scene;
   few : l.scene.polls + MAX_POLLS * length l.lines.items ≤ MAX_POLLS * MAX_COMMANDS;

@@ -11,8 +11,8 @@ returns-in-Writer-clause-told g c =
     let d = g.S.Store.history c.step_open.new.port.store in
     writes_polled c.args.shard c.args.port.now.client c.args.polls a d c.args.client.now c.in-Writer.writer _ c.step_open.result c.in-Writer.is c.step_open.ensures.told
 
-pub step_open-in-Reader-requires-clause-laws : goal.step_open-in-Reader-requires-clause-laws
-step_open-in-Reader-requires-clause-laws g c = reads
+pub step_open-requires-in-Reader-clause-laws : goal.step_open-requires-in-Reader-clause-laws
+step_open-requires-in-Reader-clause-laws g c = reads
 
 pub returns-in-Reader-clause-told : goal.returns-in-Reader-clause-told
 returns-in-Reader-clause-told g c =
@@ -20,8 +20,8 @@ returns-in-Reader-clause-told g c =
     let d = g.S.Store.history c.step_open-in-Reader.new.port.store in
     reads_polled c.args.shard c.args.port.now.client c.args.polls a d c.args.client.now c.in-Reader.reader _ c.step_open-in-Reader.result c.in-Reader.is c.step_open-in-Reader.ensures.told
 
-pub step_open-in-Compactor-requires-clause-laws : goal.step_open-in-Compactor-requires-clause-laws
-step_open-in-Compactor-requires-clause-laws g c = merges
+pub step_open-requires-in-Compactor-clause-laws : goal.step_open-requires-in-Compactor-clause-laws
+step_open-requires-in-Compactor-clause-laws g c = merges
 
 pub returns-in-Compactor-clause-told : goal.returns-in-Compactor-clause-told
 returns-in-Compactor-clause-told g c =
@@ -29,8 +29,8 @@ returns-in-Compactor-clause-told g c =
     let d = g.S.Store.history c.step_open-in-Compactor.new.port.store in
     merges_polled c.args.shard c.args.port.now.client c.args.polls a d c.args.client.now c.in-Compactor.compactor _ c.step_open-in-Compactor.result c.in-Compactor.is c.step_open-in-Compactor.ensures.told
 
-pub step_open-in-Collector-requires-clause-laws : goal.step_open-in-Collector-requires-clause-laws
-step_open-in-Collector-requires-clause-laws g c = collects
+pub step_open-requires-in-Collector-clause-laws : goal.step_open-requires-in-Collector-clause-laws
+step_open-requires-in-Collector-clause-laws g c = collects
 
 pub returns-in-Collector-clause-told : goal.returns-in-Collector-clause-told
 returns-in-Collector-clause-told g c =

@@ -1,4 +1,4 @@
-use Rattle.std.proofs.Common.{refl, sym, subst, Ok}
+use Rattle.std.proofs.Common.{sym, subst, Ok}
 use Rattle.driving.specs.Goings.{Goes}
 use Rattle.driving.proofs.GoingLaws.{grows_none, no_going}
 use Rattle.step_text.specs.declared.makes.Made.{Made}

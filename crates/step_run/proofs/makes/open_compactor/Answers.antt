@@ -1,6 +1,5 @@
-use Rattle.std.proofs.Common.{◌≡◌, ℕ, Ok, Err, List, refl, sym, ap, subst, ◌∙◌}
+use Rattle.std.proofs.Common.{Ok, Err, refl, sym, subst}
 use Rattle.std.proofs.lemmas.Result.{err_from_is_err_and}
-use Rattle.store_core.specs.declared.entries.Entry.{Entry}
 use Rattle.machine_core.specs.Machines.{shard_of}
 use Rattle.load_core.specs.Fronts.{Backwards, WhereLawful}
 use Rattle.driving.specs.Drives.{Drove}
@@ -12,8 +11,6 @@ use Rattle.merge_client.specs.Following.{FollowsWhere}
 use Rattle.merge_client.specs.Polling.{CostAt}
 use Rattle.merge_client.proofs.Begun.{opened_where}
 use Rattle.merge_client.proofs.Machining.{ending, keeps}
-use Rattle.step_run.specs.declared.step_faults.StepFault.{StepFault}
-use Rattle.step_run.specs.Makes.{MakesTo, CompactorOpens}
 use Rattle.step_run.proofs.Costs.{opened_cost}
 use Rattle.step_run.proofs.Opening.{open_answers, open_fails}
 use Rattle.step_run.proofs.Answering.{over_closed}

@@ -1,6 +1,5 @@
-use Rattle.std.proofs.Common.{◌≡◌, ℕ, Ok, Err, List, refl, sym, ap, subst, ◌∙◌}
+use Rattle.std.proofs.Common.{Ok, Err, refl, subst}
 use Rattle.std.proofs.lemmas.Result.{err_from_is_err_and}
-use Rattle.store_core.specs.declared.entries.Entry.{Entry}
 use Rattle.machine_core.specs.Machines.{shard_of}
 use Rattle.driving.specs.Drives.{Drove}
 use Rattle.driving.specs.Goings.{Goes}
@@ -8,8 +7,6 @@ use Rattle.write_client.specs.declared.writers.Writer.{Writer}
 use Rattle.write_client.specs.Machining.{Ended, kept, machine}
 use Rattle.write_client.specs.Writing as writers
 use Rattle.write_client.proofs.Machining.{ending, keeps}
-use Rattle.step_run.specs.declared.step_faults.StepFault.{StepFault}
-use Rattle.step_run.specs.Makes.{MakesTo, WriterOpens}
 use Rattle.step_run.proofs.Opening.{open_answers, open_fails}
 use Rattle.step_run.proofs.Answering.{over_closed}
 use Rattle.step_run.proofs.makes.open_writer.Goals as goal

@@ -7,8 +7,8 @@ use Rattle.step_run.proofs.Shorts.{spells_short}
 use Rattle.step_run.proofs.TextRead.{rests_lawful, stays_lawful}
 use Rattle.step_run.proofs.schedule_runs.answer_text.Goals as goal
 
-pub execute-requires-clause-short : goal.execute-requires-clause-short
-execute-requires-clause-short g c = spells_short c.in-Ok.schedule c.args.text.now c.in-Ok.ensures.read
+pub execute-requires : goal.execute-requires
+execute-requires g c = record { short = spells_short c.in-Ok.schedule c.args.text.now c.in-Ok.ensures.read }
 
 pub returns-in-Err-Line-clause-lawful : goal.returns-in-Err-Line-clause-lawful
 returns-in-Err-Line-clause-lawful g c = rests_lawful c.args.shard (g.S.Store.history c.args.port.now.store)
