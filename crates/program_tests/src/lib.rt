@@ -9,3 +9,5 @@ mod disks;
 mod programs;
 #[cfg(test)]
 mod schedules;
+#[cfg(test)]
+mod trails;

@@ -6,13 +6,13 @@ use std::test::Fail;
 use store_core::{FaultAt, FaultList, MemStore};
 
 // Two appends that are merged, and a reader's lease that begins anew. An `@` stands for it.
-const MERGED: &str =
+pub const MERGED: &str =
     "writer A\ncompactor C 1000\nreader R 1000\nbegin A append 0 5\n1 1 x\n.\nstep A 9\nbegin A append 5 10\n6 1 y\n.\nstep A 9\nbegin C merge\nstep C 9\nbegin R renew\nstep R 9\n";
 
-const MERGED_SAID: &str = "A ok\nA ok\nC merged 6\nR ok\n";
+pub const MERGED_SAID: &str = "A ok\nA ok\nC merged 6\nR ok\n";
 
 // A text with what its first byte stands for.
-fn whole(alloc: Global, text: &str, start: &str) -> Result<String, AllocError> {
+pub fn whole(alloc: Global, text: &str, start: &str) -> Result<String, AllocError> {
     let mut all = String::new(alloc);
     match text.strip_prefix("@") {
         Some(rest) => {
@@ -24,7 +24,7 @@ fn whole(alloc: Global, text: &str, start: &str) -> Result<String, AllocError> {
     Ok(all)
 }
 
-fn faults_of(alloc: Global, calls: &[(u64, bool)]) -> Result<FaultList, AllocError> {
+pub fn faults_of(alloc: Global, calls: &[(u64, bool)]) -> Result<FaultList, AllocError> {
     let mut faults = FaultList::new(alloc);
     for call in calls {
         faults.push(FaultAt {
@@ -35,7 +35,7 @@ fn faults_of(alloc: Global, calls: &[(u64, bool)]) -> Result<FaultList, AllocErr
     Ok(faults)
 }
 
-fn steps<'a>(schedule: &'a str) -> Case<'a> {
+pub fn steps<'a>(schedule: &'a str) -> Case<'a> {
     Case {
         words: "steps",
         feed: schedule.as_bytes(),
@@ -49,55 +49,6 @@ fn steps<'a>(schedule: &'a str) -> Case<'a> {
 fn schedules_are_executed(rt: HostRuntime) -> Result<(), Fail> {
     let alloc = rt.alloc();
     for (name, fails, schedule, status, said) in [
-        (
-            "two writers race",
-            [].as_slice(),
-            "writer A\nwriter B\nbegin A append 0 10\n1 1 a\n.\nbegin B append 0 10\n1 1 b\n.\nstep A 1\nstep B 2\nstep A 2\n",
-            0,
-            "B ok\nA mismatch 10\n",
-        ),
-        (
-            "the answer to an append is lost",
-            [(11, true)].as_slice(),
-            "writer A\ncompactor C 100\nwriter B\nbegin B append 0 5\n1 1 x\n.\nstep B 9\nbegin A append 5 10\n6 1 y\n.\nstep A 3\nbegin C merge\nstep C 9\nstep A 2\nreader R 100\nbegin R snapshot 9\nstep R 9\n",
-            0,
-            "B ok\nA fault\nC merged 6\nA ok\nR 1 x\nR 1 y\nR .\n",
-        ),
-        (
-            "a collector stops",
-            [].as_slice(),
-            "@collector G\nbegin G collect\nstep G 2\nstop G\ncollector H\nbegin H collect\nstep H 9\nbegin R snapshot 9\nstep R 9\n",
-            0,
-            "@H collected 6 2\nR 1 x\nR 1 y\nR .\n",
-        ),
-        (
-            "a collector is slow",
-            [].as_slice(),
-            "@collector G\nbegin G collect\nstep G 1\nbegin A append 10 15\n11 1 z\n.\nstep A 9\nbegin C merge\nstep C 9\nbegin R renew\nstep R 9\ncollector H\nbegin H collect\nstep H 9\nstep G 9\nhead\nbegin R snapshot 14\nstep R 9\n",
-            0,
-            "@A ok\nC merged 9\nR ok\nH collected 9 4\nG collected 6 2\nhead 10\nR 1 x\nR 1 y\nR 1 z\nR .\n",
-        ),
-        (
-            "a reader's lease runs out",
-            [].as_slice(),
-            "writer A\ncompactor C 1000\nreader R 100\nbegin A append 0 5\n1 1 x\n.\nstep A 9\nbegin A append 5 10\n6 1 y\n.\nstep A 9\nbegin R snapshot 9\nstep R 2\nmoment 200\nexpirer E\nbegin E expire\nstep E 9\nbegin C merge\nstep C 9\ncollector G\nbegin G collect\nstep G 9\nstep R 9\n",
-            0,
-            "A ok\nA ok\nE removed 2\nC merged 7\nG collected 7 2\nR expired 7\n",
-        ),
-        (
-            "a lease runs out at its moment",
-            [].as_slice(),
-            "writer A\nreader R 100\nexpirer E\nmoment 99\nbegin E expire\nstep E 9\nmoment 100\nbegin E expire\nstep E 9\n",
-            0,
-            "E none 2\nE removed 1\n",
-        ),
-        (
-            "nothing is due, and a listen is quiet",
-            [].as_slice(),
-            "@begin C merge\nstep C 9\nbegin R listen 4\nstep R 9\nbegin R next\nstep R 9\n",
-            0,
-            "@C nothing 7\nR 6 1 y\nR upto 10\nR quiet 10\n",
-        ),
         (
             "a line is at fault",
             [].as_slice(),
@@ -201,6 +152,27 @@ fn faults_around_a_schedule_are_told(rt: HostRuntime) -> Result<(), Fail> {
         let (ended, taken) = ended(alloc, &case, store)?;
         assert_eq!(rt; ended.status, status, "{reads:?} {puts:?}");
         assert_eq!(rt; taken.as_slice(), said, "{reads:?} {puts:?}");
+    }
+    Ok(())
+}
+
+// A schedule ends where a call of an opening line or a Head fails.
+#[test]
+fn each_opening_call_fails_in_turn(rt: HostRuntime) -> Result<(), Fail> {
+    let alloc = rt.alloc();
+    let opening = "writer A\nreader R 5\ncompactor C 5\nhead\n";
+    for number in 0..9 {
+        for took in [true, false] {
+            let store = MemStore::new(alloc, faults_of(alloc, &[(number, took)])?);
+            let (ended, taken) = ended(alloc, &steps(opening), store)?;
+            let (status, said) = if number < 8 {
+                (6, "store failed\n")
+            } else {
+                (0, "head 3\n")
+            };
+            assert_eq!(rt; ended.status, status, "{number} {took}");
+            assert_eq!(rt; taken.as_slice(), said.as_bytes(), "{number} {took}");
+        }
     }
     Ok(())
 }
