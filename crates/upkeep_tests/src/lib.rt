@@ -8,4 +8,6 @@ mod faults;
 #[cfg(test)]
 mod keepings;
 #[cfg(test)]
+mod leases;
+#[cfg(test)]
 mod turns;

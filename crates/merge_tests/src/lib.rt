@@ -1,0 +1,5 @@
+//! Tests of what merges draft.
+#![tactic(auto)]
+
+#[cfg(test)]
+mod drafts;
