@@ -1,5 +1,6 @@
 pub mod Binding
 pub mod MintRows
+pub mod OwnAnswers
 pub mod LookRule
 pub mod KnownLaws
 pub mod MintLaws

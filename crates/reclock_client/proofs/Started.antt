@@ -6,7 +6,9 @@ use Rattle.update_core.specs.declared.updates.Update.{Update}
 use Rattle.update_core.specs.Frontiers.{after}
 use Rattle.history_core.specs.declared.asked.Asked.{Asked}
 use Rattle.history_core.specs.declared.asked.Asked.TheVariants as asks
+use Rattle.load_core.specs.declared.begin_faults.BeginFault.{BeginFault}
 use Rattle.read_client.specs.declared.readers.Reader.{Reader}
+use Rattle.read_client.specs.Beginning.{member_fault, next_fault}
 use Rattle.read_client.specs.Reading as readers
 use Rattle.write_client.specs.declared.writers.Writer.{Writer}
 use Rattle.write_client.specs.Writing as writers
@@ -26,14 +28,14 @@ use Rattle.reclock_client.proofs.Standing.{data_begun, reader_begun, remap_begun
 
 leave_shard : (old new : Writer) (b : Bool) → StartsLeave old new b → writers.shard_of new ≡ writers.shard_of old
 leave_shard old new true (free, (member, is, after)) = ap writers.shard_of after
-leave_shard old new false same = ap writers.shard_of same
+leave_shard old new false (why, same) = ap writers.shard_of same
 
 append_shard : (rows : Option (List Update × Option ℕ)) (from : ℕ) (old new : Writer) (b : Begun) →
     BeginsAppend rows from old new (Ok b) → writers.shard_of new ≡ writers.shard_of old
 append_shard None from old new b (is, same) = ap writers.shard_of same
 append_shard (Some rows) from old new begun.Yes (free, a) = ap writers.shard_of a.after
 append_shard (Some rows) from old new begun.Spent (spent, same) = ap writers.shard_of same
-append_shard (Some rows) from old new begun.Refused same = ap writers.shard_of same
+append_shard (Some rows) from old new begun.Refused (why, same) = ap writers.shard_of same
 
 -- ---- the remap shard's writer
 
@@ -124,14 +126,14 @@ record Reads (old new : Reader) (X : Type 0) : Type 0 where
 unasked : (r : Reader) (X : Type 0) → r.asked ≡ None → IfSome r.asked (λ asked. IsChange asked → X)
 unasked r X idle = subst (λ (a : Option Asked). IfSome a (λ asked. IsChange asked → X)) (sym idle) tt
 
-read_begins : (asked : Asked) (listen : Option (Option ℕ)) (old new : Reader) (b : Bool) (X : Type 0) → ¬ IsChange asked →
-    old.asked ≡ None → StartsRead asked listen old new b → Reads old new X
-read_begins asked listen old new true X reads idle (free, after) = record {
+read_begins : (fault : Option BeginFault) (asked : Asked) (listen : Option (Option ℕ)) (old new : Reader) (b : Bool) (X : Type 0) →
+    ¬ IsChange asked → old.asked ≡ None → StartsRead fault asked listen old new b → Reads old new X
+read_begins fault asked listen old new true X reads idle (free, after) = record {
   shard = ap readers.shard_of after;
   leaves = subst (λ (a : Option Asked). IfSome a (λ asked. IsChange asked → X)) (sym (ap (λ (r : Reader). r.asked) after))
       (λ h. absurd (reads h));
 }
-read_begins asked listen old new false X reads idle same = record {
+read_begins fault asked listen old new false X reads idle (why, same) = record {
   shard = ap readers.shard_of same;
   leaves = unasked new X (ap (λ (r : Reader). r.asked) same ∙ idle);
 }
@@ -141,7 +143,7 @@ leave_reads old new true X x idle (free, (member, is, after)) = record {
   shard = ap readers.shard_of after;
   leaves = subst (λ (a : Option Asked). IfSome a (λ asked. IsChange asked → X)) (sym (ap (λ (r : Reader). r.asked) after)) (λ h. x);
 }
-leave_reads old new false X x idle same = record {
+leave_reads old new false X x idle (why, same) = record {
   shard = ap readers.shard_of same;
   leaves = unasked new X (ap (λ (r : Reader). r.asked) same ∙ idle);
 }
@@ -176,12 +178,12 @@ read_form o new steps.JoinReader is_open s rests idle (done, is) =
           (λ h. absurd h);
     })
 read_form o new steps.Snapshot is_open s rests idle (starts, is) = read_on o new s rests is
-    (read_begins (asks.Snapshot o.course.since) o.reader.listen o.reader new.reader is_open (o.remap_writer.member ≡ None) (λ h. h) idle starts)
+    (read_begins (member_fault o.reader.asked o.reader.member) (asks.Snapshot o.course.since) o.reader.listen o.reader new.reader is_open (o.remap_writer.member ≡ None) (λ h. h) idle starts)
 read_form o new steps.Listen is_open s rests idle (starts, is) = read_on o new s rests is
-    (read_begins (asks.Listen o.course.since) (Some (after o.course.since)) o.reader new.reader is_open (o.remap_writer.member ≡ None)
+    (read_begins (member_fault o.reader.asked o.reader.member) (asks.Listen o.course.since) (Some (after o.course.since)) o.reader new.reader is_open (o.remap_writer.member ≡ None)
     (λ h. h) idle starts)
 read_form o new steps.Next is_open s rests idle (starts, is) = read_on o new s rests is
-    (read_begins asks.Next o.reader.listen o.reader new.reader is_open (o.remap_writer.member ≡ None) (λ h. h) idle starts)
+    (read_begins (next_fault o.reader) asks.Next o.reader.listen o.reader new.reader is_open (o.remap_writer.member ≡ None) (λ h. h) idle starts)
 read_form o new other is_open s rests idle (starts, is) =
     let writer_is : new.remap_writer ≡ writers.opened o.remap = ap (λ (x : Operator). x.remap_writer) is in
     let none : new.remap_writer.member ≡ None = ap (λ (w : Writer). w.member) writer_is in

@@ -4,6 +4,7 @@ pub mod Commands
 pub mod Beginning
 pub mod Looking
 pub mod Starting
+pub mod Turns
 pub mod Parts
 pub mod Operators
 pub mod Polling

@@ -18,6 +18,7 @@ use Rattle.machine_core.specs.Polling as machines
 use Rattle.machine_core.specs.Polling.{CostGoesOn, LegalWhere}
 use Rattle.remap_core.specs.Extending.{reached, with_rows}
 use Rattle.remap_core.specs.Reclocking.{reclocked}
+use Rattle.read_client.specs.Beginning as read_begin
 use Rattle.read_client.specs.Machining as reads
 use Rattle.read_client.specs.Reading as readers
 use Rattle.write_client.specs.declared.writers.Writer.{Writer}
@@ -98,11 +99,11 @@ DataStarts other old new is_open = StartsLeave old.data_writer new.data_writer i
 abbrev pub ReadStarts : Step → Operator → Operator → Bool → Type 0
 ReadStarts steps.JoinReader old new is_open = (is_open ≡ true) × (new ≡ record old { reader = readers.opened old.remap old.moment old.lease })
 ReadStarts steps.Snapshot old new is_open =
-    StartsRead (asks.Snapshot old.course.since) old.reader.listen old.reader new.reader is_open × (new ≡ record old { reader = new.reader })
+    StartsRead (read_begin.member_fault old.reader.asked old.reader.member) (asks.Snapshot old.course.since) old.reader.listen old.reader new.reader is_open × (new ≡ record old { reader = new.reader })
 ReadStarts steps.Listen old new is_open =
-    StartsRead (asks.Listen old.course.since) (Some (after old.course.since)) old.reader new.reader is_open × (new ≡ record old { reader = new.reader })
+    StartsRead (read_begin.member_fault old.reader.asked old.reader.member) (asks.Listen old.course.since) (Some (after old.course.since)) old.reader new.reader is_open × (new ≡ record old { reader = new.reader })
 ReadStarts steps.Next old new is_open =
-    StartsRead asks.Next old.reader.listen old.reader new.reader is_open × (new ≡ record old { reader = new.reader })
+    StartsRead (read_begin.next_fault old.reader) asks.Next old.reader.listen old.reader new.reader is_open × (new ≡ record old { reader = new.reader })
 -- the remap shard's writer has left: a new one, which isn't polled, takes its place
 ReadStarts other old new is_open = LeavesReader old.reader new.reader is_open ×
     (new ≡ record old { remap_writer = writers.opened old.remap; reader = new.reader })

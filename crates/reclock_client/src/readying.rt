@@ -72,37 +72,43 @@ impl Operator {
     }
 
     // What follows the beginning of a mint's append. False where no command is open then.
-    fn after_rises(&mut self, alloc: Global, begun: Begun) -> bool
+    fn after_rises(&mut self, alloc: Global, begun: Begun) -> Result<bool, AllocError>
         requires { writers.IsSound self.old.remap_writer }
-        ensures begun { polling.RemapBegun begun self.old self.new result }
+        ensures begun { IfOk result (polling.RemapBegun begun self.old self.new) }
+        ensures memory { OnErr result (self.new ≡ self.old) }
+        ensures spent { OnErr result (begun ≡ Begun.Spent) }
         ensures sound { writers.IsSound self.new.remap_writer }
         ensures follows { (client : ℕ) (front : Option History) → writes.FollowsWhere client front self.old.remap_writer
             → writes.FollowsWhere client front self.new.remap_writer }
     {
         match begun {
-            Begun::Yes => true,
-            Begun::Refused => false,
+            Begun::Yes => Ok(true),
+            Begun::Refused => Ok(false),
             Begun::Spent => {
+                let leaves = leave_writer(alloc, &mut self.remap_writer)?;
                 self.course.step = Step::LeaveRemap;
-                leave_writer(alloc, &mut self.remap_writer)
+                Ok(leaves)
             }
         }
     }
 
     // What follows the beginning of a publish's append. False where no command is open then.
-    fn after_slice(&mut self, alloc: Global, begun: Begun) -> bool
+    fn after_slice(&mut self, alloc: Global, begun: Begun) -> Result<bool, AllocError>
         requires { writers.IsSound self.old.data_writer }
-        ensures begun { polling.DataBegun begun self.old self.new result }
+        ensures begun { IfOk result (polling.DataBegun begun self.old self.new) }
+        ensures memory { OnErr result (self.new ≡ self.old) }
+        ensures spent { OnErr result (begun ≡ Begun.Spent) }
         ensures sound { writers.IsSound self.new.data_writer }
         ensures follows { (client : ℕ) (front : Option History) → writes.FollowsWhere client front self.old.data_writer
             → writes.FollowsWhere client front self.new.data_writer }
     {
         match begun {
-            Begun::Yes => true,
-            Begun::Refused => false,
+            Begun::Yes => Ok(true),
+            Begun::Refused => Ok(false),
             Begun::Spent => {
+                let leaves = leave_writer(alloc, &mut self.data_writer)?;
                 self.course.step = Step::LeaveData;
-                leave_writer(alloc, &mut self.data_writer)
+                Ok(leaves)
             }
         }
     }
@@ -123,9 +129,9 @@ impl Operator {
             }
             Step::AppendRemap { from } => {
                 let begun = self.begin_rises(alloc, from)?;
-                Ok(self.after_rises(alloc, begun))
+                self.after_rises(alloc, begun)
             }
-            _ => Ok(leave_writer(alloc, &mut self.remap_writer)),
+            _ => leave_writer(alloc, &mut self.remap_writer),
         }
     }
 
@@ -145,9 +151,9 @@ impl Operator {
             }
             Step::AppendData { from } => {
                 let begun = self.begin_slice(alloc, from)?;
-                Ok(self.after_slice(alloc, begun))
+                self.after_slice(alloc, begun)
             }
-            _ => Ok(leave_writer(alloc, &mut self.data_writer)),
+            _ => leave_writer(alloc, &mut self.data_writer),
         }
     }
 

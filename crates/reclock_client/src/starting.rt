@@ -1,9 +1,10 @@
 // How the commands of an operator's inner machines begin.
-ghost use Rattle.std.specs.Prelude.{◌≡◌, Some, ℕ, Option};
+ghost use Rattle.std.specs.Prelude.{◌≡◌, Some, ℕ, Option, IfOk, OnErr};
 ghost use Rattle.update_core.specs.Frontiers.{after};
 ghost use Rattle.store_core.specs.Histories.{History};
 ghost use Rattle.write_client.specs.Following as writes;
 ghost use Rattle.write_client.specs.Writing as writers;
+ghost use Rattle.read_client.specs.Beginning as reads_begin;
 ghost use Rattle.read_client.specs.Following as reads;
 ghost use Rattle.read_client.specs.Reading as readers;
 ghost use Rattle.reclock_client.specs.Starting.{LeavesReader, StartsAppend, StartsLeave, StartsRead};
@@ -26,17 +27,19 @@ pub enum Begun {
     Refused,
 }
 
-/// A writer begins to leave. False where that is refused.
-pub fn leave_writer(alloc: Global, writer: &mut Writer) -> bool
+/// A writer begins to leave. False where something stands against it. It fails for want of memory, and the writer is then as it was.
+pub fn leave_writer(alloc: Global, writer: &mut Writer) -> Result<bool, AllocError>
     requires { writers.IsSound writer.old }
-    ensures leaves { StartsLeave writer.old writer.new result }
+    ensures leaves { IfOk result (StartsLeave writer.old writer.new) }
+    ensures memory { OnErr result (writer.new ≡ writer.old) }
     ensures sound { writers.IsSound writer.new }
     ensures follows { (client : ℕ) (front : Option History) → writes.FollowsWhere client front writer.old
         → writes.FollowsWhere client front writer.new }
 {
     match writer.begin_close(alloc) {
-        Ok(()) => true,
-        Err(_) => false,
+        Ok(()) => Ok(true),
+        Err(BeginFault::Memory) => Err(AllocError),
+        Err(_) => Ok(false),
     }
 }
 
@@ -65,7 +68,7 @@ pub fn append(
 /// The reader begins to take the content at a time. False where that is refused.
 pub fn take_snapshot(reader: &mut Reader, t: u64) -> bool
     requires { readers.IsSound reader.old }
-    ensures reads { StartsRead (Asked.Snapshot t) reader.old.listen reader.old reader.new result }
+    ensures reads { StartsRead (reads_begin.member_fault reader.old.asked reader.old.member) (Asked.Snapshot t) reader.old.listen reader.old reader.new result }
     ensures sound { readers.IsSound reader.new }
     ensures follows { (client : ℕ) (front : Option History) → reads.FollowsWhere client front reader.old
         → reads.FollowsWhere client front reader.new }
@@ -79,7 +82,7 @@ pub fn take_snapshot(reader: &mut Reader, t: u64) -> bool
 /// The reader begins a listen from a time on. False where that is refused.
 pub fn start_listen(reader: &mut Reader, as_of: u64) -> bool
     requires { readers.IsSound reader.old }
-    ensures reads { StartsRead (Asked.Listen as_of) (Some (after as_of)) reader.old reader.new result }
+    ensures reads { StartsRead (reads_begin.member_fault reader.old.asked reader.old.member) (Asked.Listen as_of) (Some (after as_of)) reader.old reader.new result }
     ensures sound { readers.IsSound reader.new }
     ensures follows { (client : ℕ) (front : Option History) → reads.FollowsWhere client front reader.old
         → reads.FollowsWhere client front reader.new }
@@ -93,7 +96,7 @@ pub fn start_listen(reader: &mut Reader, as_of: u64) -> bool
 /// The reader begins the next step of its listen. False where that is refused.
 pub fn take_step(reader: &mut Reader) -> bool
     requires { readers.IsSound reader.old }
-    ensures reads { StartsRead Asked.Next reader.old.listen reader.old reader.new result }
+    ensures reads { StartsRead (reads_begin.next_fault reader.old) Asked.Next reader.old.listen reader.old reader.new result }
     ensures sound { readers.IsSound reader.new }
     ensures follows { (client : ℕ) (front : Option History) → reads.FollowsWhere client front reader.old
         → reads.FollowsWhere client front reader.new }
