@@ -29,7 +29,7 @@ differs a b e h = let t : (a == b) ≡ true = itself a b h in let bad : false �
     itself a b h = grind (arith, nat_tests)
 
 module _ (client : ℕ) (pin : Reader) (idle : pin.asked ≡ None) (start : Stored) where
-  past : (es more : List Entry) → Follows client pin start es → Follows client pin start (more ++ es)
+  pub past : (es more : List Entry) → Follows client pin start es → Follows client pin start (more ++ es)
   past es [] f = f
   past es (e ∷ more) f = elim (bool_cases (e.client == client)) [
     | inl t ↦ keeps.spared_follows client pin start e [] (more ++ es) (not_open pin.asked idle) tt (same e.client client t) tt

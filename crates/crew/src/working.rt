@@ -1,5 +1,6 @@
 // A worker works to its end.
-ghost use Rattle.std.specs.Prelude.{◌≡◌};
+ghost use Rattle.std.specs.Prelude.{◌≡◌, ℕ, Option};
+ghost use Rattle.store_core.specs.Histories.{History};
 ghost use Rattle.turnstile.specs.Passes.{IsPassOf, view};
 ghost use Rattle.shared_store.specs.Fronts.{front_of};
 ghost use Rattle.shared_store.specs.Passes.{kept_of, told_of};
@@ -35,7 +36,9 @@ fn work<S: Store, G: Gate, W: Worker, R: Wait>(
     stop: Option<u64>,
 ) -> WorkerEnd
     requires ready { W.ready worker.old port.old.port.known.number (front_of S.history port.old.port.known) }
+    requires rests { (w : _) (client : ℕ) (front : Option History) → W.ready w client front → W.left w client front }
     requires fresh { own_calls port.old.port.known ≡ 0 }
+    ensures left { W.left worker.new port.new.port.known.number (front_of S.history port.new.port.known) }
     ensures keeps { KeepsOn (IsWorkersEntry (W.role worker.old) (W.shard worker.old)) (W.shard worker.old) port.old.port.known.number
         (front_of S.history port.old.port.known) (front_of S.history port.new.port.known) }
     ensures end { EndShown S.history (W.role worker.old) (W.shard worker.old) stop port.new.port.known result }
@@ -68,11 +71,13 @@ fn alone<S: Store, G: Gate, W: Worker, R: Wait>(
     requires pass { IsPassOf told_of entry_client turnstile.now pass }
     requires fresh { own_calls (view pass) ≡ 0 }
     requires ready { W.ready worker.old (view pass).number (front_of S.history (view pass)) }
+    requires rests { (w : _) (client : ℕ) (front : Option History) → W.ready w client front → W.left w client front }
     ensures pass { IsPassOf told_of entry_client turnstile.now result.0 }
     ensures same { SamePass (view pass) (view result.0) }
     ensures keeps { KeepsOn (IsWorkersEntry (W.role worker.old) (W.shard worker.old)) (W.shard worker.old)
         (view pass).number (front_of S.history (view pass)) (front_of S.history (view result.0)) }
     ensures end { EndShown S.history (W.role worker.old) (W.shard worker.old) stop (view result.0) result.1 }
+    ensures left { W.left worker.new (view result.0).number (front_of S.history (view result.0)) }
 {
     let mut port = WorkerPort::new(SharedPort::at(turnstile, pass), gate, number);
     let end = work(rt, alloc, worker, &mut port, stop);
