@@ -69,14 +69,18 @@ carries_as_pin shard own (calls.Get key) k = tt
 carries_as_pin shard own (calls.Truncate d below) k = tt
 carries_as_pin shard own (calls.Delete key) k = tt
 
-keeps_as_pin : (shard : ShardId) (client : ℕ) (front now : Option History) →
+pub keeps_as_pin : (shard : ShardId) (client : ℕ) (front now : Option History) →
     KeepsOn (IsWorkersEntry as_collector shard) shard client front now → KeepsOn (IsWorkersEntry as_pin shard) shard client front now
 keeps_as_pin shard client None now k = k
-keeps_as_pin shard client (Some h) now (more, is, k) = (more, is, λ before after e split mine list st l.
-    let p = k before after e split mine list st l in record {
-      allowed = p.allowed;
-      carries = carries_as_pin shard (mine_back h.start (reverse (h.trail ++ before)) e.client) e.call p.carries;
-    })
+keeps_as_pin shard client (Some h) now (more, is, k) = (
+  more,
+  is,
+  λ before after e split mine list st l.
+      let p = k before after e split mine list st l in record {
+        allowed = p.allowed;
+        carries = carries_as_pin shard (mine_back h.start (reverse (h.trail ++ before)) e.client) e.call p.carries;
+      },
+)
 
 means_as_pin : (shard : ShardId) (client : ℕ) (front : Option History) (turn : WorkerTurn) → TurnMeans as_collector shard client front turn →
     TurnMeans as_pin shard client front turn

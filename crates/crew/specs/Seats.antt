@@ -1,5 +1,5 @@
 -- Seats of a crew, each with a worker's pass.
-use Rattle.std.specs.Prelude.{⊤, ◌≡◌, ℕ, ◌+◌, ◌<◌, true, false, if◌then◌else◌, Option, Some, None, IfSome, List, [], ◌∷◌, length}
+use Rattle.std.specs.Prelude.{⊤, ◌≡◌, ◌⊎◌, is_some, ℕ, ◌+◌, ◌<◌, true, false, if◌then◌else◌, Option, Some, None, IfSome, List, [], ◌∷◌, length}
 use Rattle.update_core.specs.declared.appends.FeedAppend.{FeedAppend}
 use mathlib.Core.List.{IsPrefix}
 use Rattle.turnstile.specs.declared.views.View.{View}
@@ -13,7 +13,9 @@ use Rattle.store_core.specs.declared.shards.ShardId.{ShardId}
 use Rattle.store_core.specs.Histories.{History}
 use Rattle.store_core.specs.Ports.{with_entries}
 use Rattle.shared_store.specs.declared.counted_stores.CountedStore.{CountedStore}
+use Rattle.shared_store.specs.Fronts.{front_of}
 use Rattle.shared_store.specs.Passes.{told_of}
+use Rattle.read_client.specs.declared.readers.Reader.{Reader}
 use Rattle.shared_store.specs.Trails.{entry_client}
 use Rattle.crew_core.specs.Keeping.{Keeps}
 use Rattle.crew_core.specs.Working.{IsWorkersEntry, Role, is_pin, role_of}
@@ -25,6 +27,7 @@ use Rattle.crew.specs.declared.plans.Plan.{Plan}
 use Rattle.crew.specs.Ends.{EndMeans}
 use Rattle.crew.specs.Looping.{EndShown, LastFailed}
 use Rattle.crew.specs.Plans.{client_of, job_in, job_of}
+use Rattle.crew.specs.Pinning.{IsPinOf}
 use Rattle.crew.specs.Posts.{opened}
 use Rattle.crew.specs.Stops.{stop_of}
 
@@ -105,6 +108,28 @@ module _ {S : Type 0} {G : Ghosts S} where
     pub alone : IsAlone (view pass)
     pub keeps : KinKeeps (λ n. role_of s.job appends) shard G.history (view pass)
     pub shown : EndShown G.history (role_of s.job appends) shard s.stop (view pass) s.end
+    pub pin : IfSome s.pin (λ r. IsPinOf shard (view pass).number (front_of G.history (view pass)) r)
+
+  -- the seat's pin, where it has one, is this one, and the seat is that of its client
+  abbrev pub PinIs : Reader → Seat S G → Type 0
+  PinIs pin s = IfSome s.pin (λ r. (is_pin s.job ≡ true) × (r ≡ pin))
+
+  -- the seats are the same but for their pins
+  abbrev pub SameButPin : List (Seat S G) → List (Seat S G) → Type 0
+  SameButPin [] [] = ⊤
+  SameButPin (x ∷ xs) (y ∷ ys) = (y ≡ record x { pin = y.pin }) × SameButPin xs ys
+  SameButPin _ _ = ⊥
+
+  -- some seat has the pin
+  abbrev pub HasPin : List (Seat S G) → Type 0
+  HasPin [] = ⊥
+  HasPin (s ∷ ss) = (is_some s.pin ≡ true) ⊎ HasPin ss
+
+  -- the seat has a new pass, and its pin, where it has one, follows as the client of that
+  pub record IsReadySeat (shard : ShardId) (t : Turnstile (CountedStore S G) S Entry) (s : Seat S G) : Type 0 where
+    pub seated : IsSeated t s
+    pub pin : IfSome s.pin (λ r. (is_pin s.job ≡ true) × ((r.asked ≡ None) ×
+        IsPinOf shard (view seated.pass).number (front_of G.history (view seated.pass)) r))
 
   -- the share of a seat's pass
   abbrev pub share_in : Option (Pass (CountedStore S G) S Entry) → ℕ
@@ -163,6 +188,7 @@ module _ {S : Type 0} {G : Ghosts S} where
     pub worker : new.worker ≡ old.worker
     pub stop : new.stop ≡ old.stop
     pub job : new.job ≡ old.job
+    pub held : is_some new.pin ≡ is_some old.pin
 
   -- the pass with the view w shows what the seat's pass shows
   abbrev pub ShowsSeat : View S Entry → Seat S G → Type 0

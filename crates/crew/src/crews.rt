@@ -95,6 +95,7 @@ fn make_seats<S: Store>(alloc: Global, plan: &Plan) -> Result<Vec<Seat<S>>, Allo
             job: plan.job_of(worker),
             stop: plan.stops.stop_of(worker),
             pass: None,
+            pin: None,
             end: WorkerEnd::Finished,
         })?;
     }

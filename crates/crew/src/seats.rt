@@ -1,5 +1,5 @@
 // Seats of a crew.
-ghost use Rattle.std.specs.Prelude.{◌≡◌, ◌≢◌, ◌+◌, ◌*◌, ◌^◌, ◌≤◌, ◌<◌, ℕ, [], length, slice_index_or, IfNone, IfSome, IsSome};
+ghost use Rattle.std.specs.Prelude.{◌≡◌, ◌≢◌, ◌+◌, ◌*◌, ◌^◌, ◌≤◌, ◌<◌, ℕ, [], length, slice_index_or, IfNone, IfSome, IsSome, None, Some};
 ghost use Rattle.std.specs.List.{AllByRecursion};
 ghost use mathlib.Core.List.{IsPrefix};
 ghost use Rattle.turnstile.specs.Passes.{IsPassOf, view};
@@ -8,6 +8,8 @@ ghost use Rattle.shared_store.specs.Trails.{entry_client};
 ghost use Rattle.appends_core.specs.Feeds.{IsFeed};
 ghost use Rattle.crew.specs.declared.plans.Plan.{Plan};
 ghost use Rattle.crew.specs.Plans.{role_in};
+ghost use Rattle.state_core.specs.Lists.{Among};
+ghost use Rattle.crew.specs.Seats.{HasPin, IsReadySeat, PinIs, SameButPin};
 ghost use Rattle.crew.specs.Seats.{HasNumber, HasWorked, IsNew, IsPrefixOf, IsSeated, KinKeeps, NoPin, NumberedFrom, OnePin, PlacedFrom, SeenSame};
 ghost use Rattle.crew.specs.Seats.{Shows, ShowsSeat, Suits, Works, ends_of, share_in, shares_of};
 
@@ -15,8 +17,9 @@ use crate::ends::WorkerEnd;
 use crate::gates::Gate;
 use crate::plans::Plan;
 use crate::progress::Progress;
-use crate::working::{Task, work_alone};
+use crate::working::{Task, work_with};
 use crew_core::Job;
+use read_client::Reader;
 use shared_store::CountedStore;
 use std::alloc::Global;
 use std::sync::Wait;
@@ -26,13 +29,15 @@ use store_core::{ShardId, Store};
 use turnstile::{Pass, Turnstile};
 use update_core::FeedAppend;
 
-/// A worker's place in a crew: its number, what it is for, its stop number if it has one, its pass, and its end.
+/// A worker's place in a crew: its number, what it is for, its stop number if it has one, its pass, the pin if that is in
+/// its hand, and its end.
 #[derive(Drop)]
 pub struct Seat<S: Store> {
     pub(crate) worker: u32,
     pub(crate) job: Job,
     pub(crate) stop: Option<u64>,
     pub(crate) pass: Option<Pass<CountedStore<S>>>,
+    pub(crate) pin: Option<Reader>,
     pub(crate) end: WorkerEnd,
 }
 
@@ -48,7 +53,7 @@ fn sit<S: Store, G: Gate, R: Wait>(
     progress: &Progress,
     seat: &mut Seat<S>,
 )
-    requires seated { IsSeated turnstile.now seat.old }
+    requires ready { IsReadySeat shard turnstile.now seat.old }
     requires feed { IsFeed appends.now }
     ensures { Works appends.now shard turnstile.now seat.old seat.new }
 {
@@ -64,9 +69,44 @@ fn sit<S: Store, G: Gate, R: Wait>(
         moment,
         progress,
     };
-    let (pass, end) = work_alone(rt, alloc, turnstile, pass, gate, task);
+    let (pass, end) = work_with(rt, alloc, turnstile, pass, gate, task, &mut seat.pin);
     seat.pass = Some(pass);
     seat.end = end;
+}
+
+/// Puts the pin into the seat of its client, and gives it back where there is none.
+pub(crate) fn place_pin<S: Store>(seats: &mut [Seat<S>], pin: Reader) -> Option<Reader>
+    requires empty { AllByRecursion (λ s. s.pin ≡ None) seats.old }
+    ensures some { IfSome result (λ r. (r ≡ pin) × NoPin seats.old) }
+    ensures none { IfNone result (HasPin seats.new) }
+    ensures pins { AllByRecursion (PinIs pin) seats.new }
+    ensures length { length seats.new ≡ length seats.old }
+    ensures places { (plan : Plan) (worker : ℕ) → PlacedFrom plan worker seats.old → PlacedFrom plan worker seats.new }
+{
+    let Some((first, rest)) = seats.split_first_mut() else {
+        return Some(pin);
+    };
+    if first.job.is_pin() {
+        first.pin = Some(pin);
+        return None;
+    }
+    place_pin(rest, pin)
+}
+
+/// Takes the pin out of the seat that has it.
+pub(crate) fn take_pin<S: Store>(seats: &mut [Seat<S>]) -> Option<Reader>
+    ensures some { HasPin seats.old → IsSome result }
+    ensures length { length seats.new ≡ length seats.old }
+    ensures pin { IfSome result (λ r. Among (λ s. s.pin ≡ Some r) seats.old) }
+    ensures same { SameButPin seats.old seats.new }
+{
+    let Some((first, rest)) = seats.split_first_mut() else {
+        return None;
+    };
+    match first.pin.take() {
+        Some(pin) => Some(pin),
+        None => take_pin(rest),
+    }
 }
 
 /// All workers work to their ends, each in a thread of its own.
@@ -81,7 +121,7 @@ pub(crate) fn sit_all<S: Store + Send, G: Gate + Sync, R: Threads + Wait + Sync>
     progress: &Progress,
     seats: &mut [Seat<S>],
 )
-    requires seated { AllByRecursion (IsSeated turnstile.now) seats.old }
+    requires ready { AllByRecursion (IsReadySeat shard turnstile.now) seats.old }
     requires feed { IsFeed appends.now }
     ensures length { length seats.new ≡ length seats.old }
     ensures worked { (i : ℕ) (d : _) → i < length seats.old
@@ -96,7 +136,7 @@ pub(crate) fn sit_all<S: Store + Send, G: Gate + Sync, R: Threads + Wait + Sync>
         seats,
         count,
         &|_: usize, seat: &mut Seat<S>|
-            requires { IsSeated turnstile.now seat.now × IsFeed appends.now }
+            requires { IsReadySeat shard turnstile.now seat.now × IsFeed appends.now }
             ensures { Works appends.entry.now shard turnstile.entry.now seat.entry.now seat.exit.now }
         {
             sit(
@@ -125,6 +165,7 @@ fn deal_one<S: Store>(
     ensures worker { seat.new.worker ≡ seat.old.worker }
     ensures stop { seat.new.stop ≡ seat.old.stop }
     ensures job { seat.new.job ≡ seat.old.job }
+    ensures pin { seat.new.pin ≡ seat.old.pin }
 {
     let Ok(other) = turnstile.split(&mut pass) else {
         unreachable!()
@@ -154,6 +195,8 @@ pub(crate) fn deal<S: Store>(
     ensures numbers { NumberedFrom (view pass).low seats.new }
     ensures length { length seats.new ≡ length seats.old }
     ensures places { (plan : Plan) (worker : ℕ) → PlacedFrom plan worker seats.old → PlacedFrom plan worker seats.new }
+    ensures pins { (pin : _) → AllByRecursion (PinIs pin) seats.old → AllByRecursion (PinIs pin) seats.new }
+    ensures held { HasPin seats.old → HasPin seats.new }
 {
     let Some((first, rest)) = seats.split_first_mut() else {
         return Some(pass);

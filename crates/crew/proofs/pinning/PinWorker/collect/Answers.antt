@@ -1,4 +1,3 @@
-
 use Rattle.crew_core.specs.Working.{IsWorkersEntry, as_collector}
 use Rattle.crew.proofs.PinTurning.{collected_ready, pin_past, turned_as_pin}
 use Rattle.crew.proofs.pinning.PinWorker.collect.Goals as goal
