@@ -98,7 +98,7 @@ crew_ran plan h gain kin feed each keeps = record {
 
 module _ {S : Type 0} where
   -- where the history wasn't told nothing is
-  front_none : (history : S → Option History) (v : View S Entry) → opened history v ≡ None → front_of history v ≡ None
+  pub front_none : (history : S → Option History) (v : View S Entry) → opened history v ≡ None → front_of history v ≡ None
   front_none history v e = go v.start e
     where
       on : (o : Option History) (xs ys : List Entry) → extended o xs ≡ None → extended o (xs ++ ys) ≡ None

@@ -10,6 +10,7 @@ mod MergeCarries
 mod MergeTurning
 mod Numbers
 mod PinFollows
+mod PinSeats
 mod PinTurning
 mod PortKeeping
 mod Reaching

@@ -1,7 +1,6 @@
 -- What a turn of the worker that renews the pin, and collects, comes to.
-use Rattle.std.proofs.Common.{◌≡◌, ◌⊎◌, ℕ, ◌+◌, ◌<◌, true, false, Option, Some, None, List, [], ◌∷◌, ◌++◌, inl, inr, refl, sym, ap, subst, ◌∙◌}
+use Rattle.std.proofs.Common.{◌≡◌, ℕ, ◌<◌, true, false, Option, Some, None, List, ◌++◌, inl, inr, refl, sym, ap, subst, ◌∙◌}
 use Rattle.std.specs.Prelude.{IfSome, IsSome, IsSomeAnd, reverse}
-use Rattle.update_core.specs.declared.updates.Update.{Update}
 use Rattle.store_core.specs.declared.shards.ShardId.{ShardId}
 use Rattle.store_core.specs.declared.calls.Call.{Call}
 use Rattle.store_core.specs.declared.calls.Call.TheVariants as calls
@@ -9,7 +8,7 @@ use Rattle.store_core.specs.declared.replies.Reply.{Reply}
 use Rattle.store_core.specs.declared.entries.Entry.{Entry}
 use Rattle.store_core.specs.Histories.{History}
 use Rattle.store_core.specs.Stores.{Stored}
-use Rattle.store_core.specs.Ports.{Answered, with_entries}
+use Rattle.store_core.specs.Ports.{Answered}
 use Rattle.store_core.specs.Newest.{mine_back}
 use Rattle.state_core.specs.declared.kinds.Kind.TheVariants.{Reader as AsReader}
 use Rattle.state_core.specs.declared.transitions.Transition.{Transition}
@@ -26,20 +25,18 @@ use Rattle.load_core.specs.declared.polls.Poll.{Poll}
 use Rattle.load_core.specs.declared.polls.Poll.TheVariants as polls
 use Rattle.load_core.specs.declared.tryings.Trying.{Trying}
 use Rattle.load_core.specs.Firsts.{MakesFirst}
-use Rattle.load_core.specs.Loading.{Loading}
 use Rattle.load_core.specs.Runs.{OnlyCarries}
 use Rattle.load_core.specs.Trying as trying
-use Rattle.machine_core.specs.Machines.{GoesOn}
 use Rattle.machine_core.specs.Polling as machines
 use Rattle.machine_core.specs.Polling.{Polled, Unpolled}
-use Rattle.maint_client.specs.declared.collectors.Collector.{Collector}
 use Rattle.maint_client.specs.Collecting as collectors
 use Rattle.read_client.specs.declared.readers.Reader.{Reader}
 use Rattle.read_client.specs.declared.questions.Question.{Question}
 use Rattle.read_client.specs.Asking.{question_of}
 use Rattle.read_client.specs.Following.{Follows, FollowsWhere}
 use Rattle.read_client.specs.Machining.{Kept, Opens, kept, machine}
-use Rattle.read_client.specs.Reading.{AsksAs, IsAsked, IsOpen, IsSound, call_by, call_of, question, shard_of}
+use Rattle.read_client.specs.Reading.{AsksAs, IsAsked, IsOpen, IsSound, Moves, MovesBy, after_poll, call_by, question, reading_on, shard_of}
+use Rattle.read_client.specs.Reading.{taken_back}
 use Rattle.read_client.proofs.Machining.{keeps}
 use Rattle.crew_core.specs.KeepingOn.{KeepsOn}
 use Rattle.crew_core.specs.Working.{CarriesWorkers, IsOwnRenewal, IsWorkersEntry, as_collector, as_pin}
@@ -50,8 +47,8 @@ use Rattle.crew.specs.declared.ends.WorkerEnd.TheVariants as ends
 use Rattle.crew.specs.declared.ends.WorkerTurn.{WorkerTurn}
 use Rattle.crew.specs.declared.ends.WorkerTurn.TheVariants as turns
 use Rattle.crew.specs.Collecting as collecting
-use Rattle.crew.specs.Pinning.{GoesOnBy, IsPinOf, IsReady, IsRenewal}
-use Rattle.crew.specs.Turns.{IsFaulted, IsMarked, MakesFew, ReadyAgain, TurnMeans, Turned}
+use Rattle.crew.specs.Pinning.{EndsEarly, GoesBy, IsPinLeft, IsPinOf, IsReady, IsRenewal}
+use Rattle.crew.specs.Turns.{IsFaulted, IsMarked, Leaves, ReadyAgain, TurnMeans, Turned}
 use Rattle.crew.proofs.PinFollows.{past}
 use Rattle.crew.proofs.RoleKeeping as roles
 use Rattle.crew.proofs.TurnEnds.{polled_shard}
@@ -133,6 +130,19 @@ collector_past client front now w idle ready = record { of_shard = ready.of_shar
         subst (λ (o : Option Asked). IfSome o (λ a. collectors.FollowsCommand client w.collector h.start (reverse h.trail))) (sym idle) tt
 
 -- ---- a poll of the renewal
+
+no_end : (end : WorkerEnd) → turns.Again ≡ turns.End end → ⊥
+no_end end e = cc
+
+-- a poll that ends the command leaves none
+shut_by : (ready new : Reader) (reply : Reply) (poll : Poll ReadAnswer) → ((r : Reader) → (after_poll r poll).asked ≡ None) →
+    Moves ready reply new poll → new.asked ≡ None
+shut_by ready new reply poll shuts moves = by (question ready) moves
+  where
+    by : (q : Option Question) → MovesBy q ready reply new poll → new.asked ≡ None
+    by None (t, tried, asked, goes, was, is, new_is) = ap (λ (r : Reader). r.asked) new_is ∙ shuts (record ready { trying = t })
+    by (Some q) (v, goes, same, new_is) =
+        ap (λ (r : Reader). r.asked) new_is ∙ shuts (taken_back (reading_on ready v) poll)
 
 carried : (own : List Answered) (d : ShardId) (Opening : Type 0) (x : Transition) (call : Call) → (Opening → ⊥) →
     ((key : _) (bytes : List ℕ) → call ≡ calls.Set key bytes → ⊥) → OnlyCarries d x call → MakesFirst Opening d call →
@@ -225,21 +235,23 @@ module _ (client : ℕ) (front now : Option History) (w : PinWorker) (ready : Is
     | inr k ↦ k
   ]
 
-  -- the renewal that is open is the same one, or it was answered
-  asked_on : (new : Reader) (poll : Poll ReadAnswer) → Polled machine client front now w.pin new poll → GoesOnBy poll turns.Again →
+  -- the renewal that is open is the same one
+  asked_same : (o : Option Asked) → o ≡ w.pin.asked → IfSome o IsRenewal
+  asked_same o same = subst (λ (p : Option Asked). IfSome p IsRenewal) (sym same) ready.asked
+
+  -- or it was answered
+  asked_on : (new : Reader) (poll : Poll ReadAnswer) → Polled machine client front now w.pin new poll → GoesBy poll turns.Again →
       IfSome new.asked IsRenewal
-  asked_on new polls.Busy k goes =
-      subst (λ (o : Option Asked). IfSome o IsRenewal) (sym (ap (λ (k : Kept). k.asked) (keeps.prepared_kept w.pin new k.1))) ready.asked
-  asked_on new polls.More k goes =
-      subst (λ (o : Option Asked). IfSome o IsRenewal) (sym (ap (λ (k : Kept). k.asked) (k.stays tt).0)) ready.asked
+  asked_on new polls.Busy k goes = asked_same new.asked (ap (λ (k : Kept). k.asked) (keeps.prepared_kept w.pin new k.1))
+  asked_on new polls.More k goes = asked_same new.asked (ap (λ (k : Kept). k.asked) (k.stays tt).0)
   asked_on new (polls.Done answer) k goes =
       subst (λ (o : Option Asked). IfSome o IsRenewal) (sym (k.ended answer refl).asked) tt
-  asked_on new polls.Fault k goes = absurd goes
-  asked_on new polls.Spent k goes = absurd goes
-  asked_on new (polls.Damaged damage) k goes = absurd goes
+  asked_on new polls.Fault k goes = absurd (no_end ends.Faulted goes)
+  asked_on new polls.Spent k goes = absurd (no_end ends.Spent goes)
+  asked_on new (polls.Damaged damage) k goes = absurd (no_end (ends.Damaged damage) goes)
 
   pub polled_ready : (new : Reader) (poll : Poll ReadAnswer) (turn : WorkerTurn) → Polled machine client front now w.pin new poll →
-      IsSound new → FollowsWhere client now new → GoesOnBy poll turn → ReadyAgain (IsReady client now (record w { pin = new })) turn
+      IsSound new → FollowsWhere client now new → GoesBy poll turn → ReadyAgain (IsReady client now (record w { pin = new })) turn
   polled_ready new poll (turns.End end) k sound follows goes = tt
   polled_ready new poll turns.Again k sound follows goes = record {
     pin = polled_pin new poll k sound follows;
@@ -247,6 +259,46 @@ module _ (client : ℕ) (front now : Option History) (w : PinWorker) (ready : Is
     collects = collector_past client front now w.collects rests ready.collects;
     one = inr rests;
   }
+
+  -- what is left of the pin where the worker ends
+  left_open : (new : Reader) (end : WorkerEnd) → IsPinOf w.collects.shard client now new → new.asked ≡ w.pin.asked → EndsEarly end →
+      IsPinLeft w.collects.shard client now new end
+  left_open new end is same early = record { follows = is; asked = both new.asked (asked_same new.asked same) }
+    where
+      both : (o : Option Asked) → IfSome o IsRenewal → IfSome o (λ a. IsRenewal a × EndsEarly end)
+      both None h = tt
+      both (Some a) h = (h, early)
+
+  left_shut : (new : Reader) (end : WorkerEnd) → IsPinOf w.collects.shard client now new → new.asked ≡ None →
+      IsPinLeft w.collects.shard client now new end
+  left_shut new end is none = record {
+    follows = is;
+    asked = subst (λ (o : Option Asked). IfSome o (λ a. IsRenewal a × EndsEarly end)) (sym none) tt;
+  }
+
+  pub unpolled_left : (new : Reader) → Unpolled machine client front now w.pin new → IsSound new → FollowsWhere client now new →
+      IsPinLeft w.collects.shard client now new ends.Memory
+  unpolled_left new u sound follows =
+      left_open new ends.Memory (unpolled_pin new u sound follows) (ap (λ (k : Kept). k.asked) u.same) tt
+
+  pub polled_left : (new : Reader) (poll : Poll ReadAnswer) (turn : WorkerTurn) → Polled machine client front now w.pin new poll →
+      IsSound new → FollowsWhere client now new → GoesBy poll turn → Leaves (IsPinLeft w.collects.shard client now new) turn
+  polled_left new poll turn k sound follows goes = by poll k goes
+    where
+      leaves : WorkerTurn → Type 0
+      leaves t = Leaves (IsPinLeft w.collects.shard client now new) t
+
+      by : (p : Poll ReadAnswer) → Polled machine client front now w.pin new p → GoesBy p turn → leaves turn
+      by polls.Busy k goes = subst leaves (sym goes) tt
+      by polls.More k goes = subst leaves (sym goes) tt
+      by (polls.Done answer) k goes = subst leaves (sym goes) tt
+      by polls.Fault k goes = subst leaves (sym goes)
+          (left_open new ends.Faulted (polled_pin new polls.Fault k sound follows) (ap (λ (k : Kept). k.asked) (k.stays tt).0) tt)
+      by polls.Spent k goes = subst leaves (sym goes)
+          (left_shut new ends.Spent (polled_pin new polls.Spent k sound follows) (shut_by k.ready new k.reply polls.Spent (λ r. refl) k.moves))
+      by (polls.Damaged damage) k goes = subst leaves (sym goes)
+          (left_shut new (ends.Damaged damage) (polled_pin new (polls.Damaged damage) k sound follows)
+          (shut_by k.ready new k.reply (polls.Damaged damage) (λ r. refl) k.moves))
 
 -- after a turn of the collector
 pub collected_ready : (client : ℕ) (front now : Option History) (w : PinWorker) (new : CollectorWorker) (turn : WorkerTurn) →
@@ -262,3 +314,24 @@ collected_ready client front now w new turns.Again ready idle same k again = rec
   collects = again;
   one = inl idle;
 }
+
+-- and of the pin where it ends
+pub collected_left : (client : ℕ) (front now : Option History) (w : PinWorker) (turn : WorkerTurn) →
+    IsReady client front w → w.pin.asked ≡ None →
+    KeepsOn (IsWorkersEntry as_collector w.collects.shard) w.collects.shard client front now →
+    Leaves (IsPinLeft w.collects.shard client now w.pin) turn
+collected_left client front now w turns.Again ready idle k = tt
+collected_left client front now w (turns.End end) ready idle k = record {
+  follows = pin_past (IsWorkersEntry as_collector w.collects.shard) w.collects.shard w.collects.shard client front now w.pin idle k
+      ready.pin;
+  asked = subst (λ (o : Option Asked). IfSome o (λ a. IsRenewal a × EndsEarly end)) (sym idle) tt;
+}
+
+-- what a worker that is ready leaves where it is stopped
+pub ready_left : (w : PinWorker) (client : ℕ) (front : Option History) → IsReady client front w →
+    IsPinLeft w.collects.shard client front w.pin ends.Stopped
+ready_left w client front ready = record { follows = ready.pin; asked = both w.pin.asked ready.asked }
+  where
+    both : (o : Option Asked) → IfSome o IsRenewal → IfSome o (λ a. IsRenewal a × EndsEarly ends.Stopped)
+    both None h = tt
+    both (Some a) h = (h, tt)

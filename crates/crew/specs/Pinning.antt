@@ -10,6 +10,8 @@ use Rattle.load_core.specs.declared.polls.Poll.TheVariants as polls
 use Rattle.read_client.specs.declared.readers.Reader.{Reader}
 use Rattle.read_client.specs.Following.{FollowsWhere}
 use Rattle.read_client.specs.Reading.{IsSound, shard_of}
+use Rattle.crew.specs.declared.ends.WorkerEnd.{WorkerEnd}
+use Rattle.crew.specs.declared.ends.WorkerEnd.TheVariants as ends
 use Rattle.crew.specs.declared.ends.WorkerTurn.{WorkerTurn}
 use Rattle.crew.specs.declared.ends.WorkerTurn.TheVariants as turns
 use Rattle.crew.specs.declared.pinning.PinWorker.{PinWorker}
@@ -34,8 +36,20 @@ pub record IsReady (client : ℕ) (front : Option History) (w : PinWorker) : Typ
   pub one : (w.pin.asked ≡ None) ⊎ (w.collects.collector.asked ≡ None)
 
 -- it goes on where the renewal does, and where that is answered
-abbrev pub GoesOnBy : Poll ReadAnswer → WorkerTurn → Type 0
-GoesOnBy polls.Fault turns.Again = ⊥
-GoesOnBy polls.Spent turns.Again = ⊥
-GoesOnBy (polls.Damaged damage) turns.Again = ⊥
-GoesOnBy _ _ = ⊤
+abbrev pub GoesBy : Poll ReadAnswer → WorkerTurn → Type 0
+GoesBy polls.Fault turn = turn ≡ turns.End ends.Faulted
+GoesBy polls.Spent turn = turn ≡ turns.End ends.Spent
+GoesBy (polls.Damaged damage) turn = turn ≡ turns.End (ends.Damaged damage)
+GoesBy _ turn = turn ≡ turns.Again
+
+-- the worker ended early: by its stop number, by a call that failed, or for want of memory
+abbrev pub EndsEarly : WorkerEnd → Type 0
+EndsEarly ends.Stopped = ⊤
+EndsEarly ends.Faulted = ⊤
+EndsEarly ends.Memory = ⊤
+EndsEarly _ = ⊥
+
+-- What is left of the pin: it follows. No command of it is open, but a renewal may be where the worker ended early.
+pub record IsPinLeft (shard : ShardId) (client : ℕ) (front : Option History) (pin : Reader) (end : WorkerEnd) : Type 0 where
+  pub follows : IsPinOf shard client front pin
+  pub asked : IfSome pin.asked (λ asked. IsRenewal asked × EndsEarly end)

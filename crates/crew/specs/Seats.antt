@@ -1,5 +1,6 @@
 -- Seats of a crew, each with a worker's pass.
 use Rattle.std.specs.Prelude.{⊤, ◌≡◌, ◌⊎◌, is_some, ℕ, ◌+◌, ◌<◌, true, false, if◌then◌else◌, Option, Some, None, IfSome, List, [], ◌∷◌, length}
+use Rattle.std.specs.List.{AllByRecursion}
 use Rattle.update_core.specs.declared.appends.FeedAppend.{FeedAppend}
 use mathlib.Core.List.{IsPrefix}
 use Rattle.turnstile.specs.declared.views.View.{View}
@@ -26,8 +27,8 @@ use Rattle.crew.specs.declared.seats.Seat.{Seat}
 use Rattle.crew.specs.declared.plans.Plan.{Plan}
 use Rattle.crew.specs.Ends.{EndMeans}
 use Rattle.crew.specs.Looping.{EndShown, LastFailed}
-use Rattle.crew.specs.Plans.{client_of, job_in, job_of}
-use Rattle.crew.specs.Pinning.{IsPinOf}
+use Rattle.crew.specs.Plans.{client_of, first_of, job_in, job_of}
+use Rattle.crew.specs.Pinning.{IsPinLeft, IsPinOf}
 use Rattle.crew.specs.Posts.{opened}
 use Rattle.crew.specs.Stops.{stop_of}
 
@@ -55,6 +56,28 @@ AllEndAs plan worker (e ∷ more) h gain =
 abbrev pub EndsOn : Plan → Option History → Option History → List WorkerEnd → Type 0
 EndsOn plan before now ends =
     (h : History) (gain : List Entry) → before ≡ Some h → now ≡ Some (with_entries h gain) → AllEndAs plan 0 ends h gain
+
+-- no seat has the pin; some seat has it
+abbrev pub HaveNone : List (Option Reader) → Type 0
+HaveNone pins = AllByRecursion (λ pin. pin ≡ None) pins
+
+abbrev pub HasPin : List (Option Reader) → Type 0
+HasPin [] = ⊥
+HasPin (pin ∷ more) = (is_some pin ≡ true) ⊎ HasPin more
+
+-- The seats are those of the workers from this one on: no other than that of the pin's client has it, with no command open, and it
+-- follows.
+abbrev pub PinsIdle : Plan → Option History → ℕ → List (Option Reader) → Type 0
+PinsIdle plan front worker [] = ⊤
+PinsIdle plan front worker (pin ∷ more) =
+    IfSome pin (λ r. (worker ≡ first_of plan) × ((r.asked ≡ None) × IsPinOf plan.shard 0 front r)) × PinsIdle plan front (worker + 1) more
+
+-- the same once they have ended so
+abbrev pub PinsLeft : Plan → Option History → ℕ → List (Option Reader) → List WorkerEnd → Type 0
+PinsLeft plan front worker [] ends = ⊤
+PinsLeft plan front worker (pin ∷ more) [] = ⊥
+PinsLeft plan front worker (pin ∷ more) (end ∷ ends) =
+    IfSome pin (λ r. (worker ≡ first_of plan) × IsPinLeft plan.shard 0 front r end) × PinsLeft plan front (worker + 1) more ends
 
 -- the number of a seat's pass, where this is the next one, and the next one after it
 abbrev pub own_number : Job → ℕ → ℕ
@@ -108,22 +131,12 @@ module _ {S : Type 0} {G : Ghosts S} where
     pub alone : IsAlone (view pass)
     pub keeps : KinKeeps (λ n. role_of s.job appends) shard G.history (view pass)
     pub shown : EndShown G.history (role_of s.job appends) shard s.stop (view pass) s.end
-    pub pin : IfSome s.pin (λ r. IsPinOf shard (view pass).number (front_of G.history (view pass)) r)
+    pub pin : IfSome s.pin (λ r. IsPinLeft shard (view pass).number (front_of G.history (view pass)) r s.end)
 
-  -- the seat's pin, where it has one, is this one, and the seat is that of its client
-  abbrev pub PinIs : Reader → Seat S G → Type 0
-  PinIs pin s = IfSome s.pin (λ r. (is_pin s.job ≡ true) × (r ≡ pin))
-
-  -- the seats are the same but for their pins
-  abbrev pub SameButPin : List (Seat S G) → List (Seat S G) → Type 0
-  SameButPin [] [] = ⊤
-  SameButPin (x ∷ xs) (y ∷ ys) = (y ≡ record x { pin = y.pin }) × SameButPin xs ys
-  SameButPin _ _ = ⊥
-
-  -- some seat has the pin
-  abbrev pub HasPin : List (Seat S G) → Type 0
-  HasPin [] = ⊥
-  HasPin (s ∷ ss) = (is_some s.pin ≡ true) ⊎ HasPin ss
+  -- what the seats have of the pin
+  abbrev pub pins_of : List (Seat S G) → List (Option Reader)
+  pins_of [] = []
+  pins_of (s ∷ ss) = s.pin ∷ pins_of ss
 
   -- the seat has a new pass, and its pin, where it has one, follows as the client of that
   pub record IsReadySeat (shard : ShardId) (t : Turnstile (CountedStore S G) S Entry) (s : Seat S G) : Type 0 where

@@ -5,8 +5,8 @@ ghost use Rattle.store_core.specs.Histories.{History};
 ghost use Rattle.load_core.specs.declared.polls.Poll.TheVariants as polls;
 ghost use Rattle.read_client.specs.Reading.{IsOpen, IsSound};
 ghost use Rattle.crew_core.specs.Working.{as_pin};
-ghost use Rattle.crew.specs.Pinning.{GoesOnBy, IsPinOf, IsReady};
-ghost use Rattle.crew.specs.Turns.{IsFaulted, IsMarked, ReadyAgain, TurnMeans, Turned};
+ghost use Rattle.crew.specs.Pinning.{GoesBy, IsPinLeft, IsPinOf, IsReady};
+ghost use Rattle.crew.specs.Turns.{IsFaulted, IsMarked, Leaves, ReadyAgain, TurnMeans, Turned};
 
 use crate::collecting::CollectorWorker;
 use crate::ends::{WorkerEnd, WorkerTurn};
@@ -52,7 +52,7 @@ impl<'a> PinWorker<'a> {
         ensures turned { Turned as_pin self.old.collects.shard (P.client port.old) (P.front port.old) (P.front port.new)
             (P.misses port.old) (P.misses port.new) result }
         ensures ready { ReadyAgain (IsReady (P.client port.old) (P.front port.new) self.new) result }
-        ensures left { IsPinOf self.old.collects.shard (P.client port.old) (P.front port.new) self.new.pin }
+        ensures left { Leaves (IsPinLeft self.old.collects.shard (P.client port.old) (P.front port.new) self.new.pin) result }
         ensures shard { self.new.collects.shard ≡ self.old.collects.shard }
         ensures client { P.client port.new ≡ P.client port.old }
         ensures kept { P.kept port.new ≡ P.kept port.old }
@@ -99,7 +99,7 @@ impl<'a> PinWorker<'a> {
         ensures turned { Turned as_pin self.old.collects.shard (P.client port.old) (P.front port.old) (P.front port.new)
             (P.misses port.old) (P.misses port.new) result }
         ensures ready { ReadyAgain (IsReady (P.client port.old) (P.front port.new) self.new) result }
-        ensures left { IsPinOf self.old.collects.shard (P.client port.old) (P.front port.new) self.new.pin }
+        ensures left { Leaves (IsPinLeft self.old.collects.shard (P.client port.old) (P.front port.new) self.new.pin) result }
         ensures shard { self.new.collects.shard ≡ self.old.collects.shard }
         ensures client { P.client port.new ≡ P.client port.old }
         ensures kept { P.kept port.new ≡ P.kept port.old }
@@ -117,7 +117,7 @@ impl<'a> PinWorker<'a> {
         ensures turned { Turned as_pin self.old.collects.shard (P.client port.old) (P.front port.old) (P.front port.new)
             (P.misses port.old) (P.misses port.new) result }
         ensures ready { ReadyAgain (IsReady (P.client port.old) (P.front port.new) self.new) result }
-        ensures left { IsPinOf self.old.collects.shard (P.client port.old) (P.front port.new) self.new.pin }
+        ensures left { Leaves (IsPinLeft self.old.collects.shard (P.client port.old) (P.front port.new) self.new.pin) result }
         ensures shard { self.new.collects.shard ≡ self.old.collects.shard }
         ensures client { P.client port.new ≡ P.client port.old }
         ensures kept { P.kept port.new ≡ P.kept port.old }
@@ -129,7 +129,7 @@ impl<'a> PinWorker<'a> {
 
 // What follows from a poll of a renewal: where it is answered, Expired too, a collection is next.
 fn after_renewal(poll: Poll<ReadAnswer>) -> WorkerTurn
-    ensures goes { GoesOnBy poll result }
+    ensures goes { GoesBy poll result }
     ensures fault { IsMarked result → (poll ≡ polls.Fault) × IsFaulted result }
     ensures means { (shard : ShardId) (client : ℕ) (front : Option History) → TurnMeans as_pin shard client front result }
 {

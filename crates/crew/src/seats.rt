@@ -1,5 +1,5 @@
 // Seats of a crew.
-ghost use Rattle.std.specs.Prelude.{◌≡◌, ◌≢◌, ◌+◌, ◌*◌, ◌^◌, ◌≤◌, ◌<◌, ℕ, [], length, slice_index_or, IfNone, IfSome, IsSome, None, Some};
+ghost use Rattle.std.specs.Prelude.{◌≡◌, ◌≢◌, ◌⊎◌, ◌+◌, ◌*◌, ◌^◌, ◌≤◌, ◌<◌, ℕ, [], length, slice_index_or, IfNone, IfSome, IsSome, None, Option, Some};
 ghost use Rattle.std.specs.List.{AllByRecursion};
 ghost use mathlib.Core.List.{IsPrefix};
 ghost use Rattle.turnstile.specs.Passes.{IsPassOf, view};
@@ -9,7 +9,9 @@ ghost use Rattle.appends_core.specs.Feeds.{IsFeed};
 ghost use Rattle.crew.specs.declared.plans.Plan.{Plan};
 ghost use Rattle.crew.specs.Plans.{role_in};
 ghost use Rattle.state_core.specs.Lists.{Among};
-ghost use Rattle.crew.specs.Seats.{HasPin, IsReadySeat, PinIs, SameButPin};
+ghost use Rattle.store_core.specs.Histories.{History};
+ghost use Rattle.crew.specs.Pinning.{IsPinOf};
+ghost use Rattle.crew.specs.Seats.{HasPin, HaveNone, IsReadySeat, PinsIdle, pins_of};
 ghost use Rattle.crew.specs.Seats.{HasNumber, HasWorked, IsNew, IsPrefixOf, IsSeated, KinKeeps, NoPin, NumberedFrom, OnePin, PlacedFrom, SeenSame};
 ghost use Rattle.crew.specs.Seats.{Shows, ShowsSeat, Suits, Works, ends_of, share_in, shares_of};
 
@@ -74,12 +76,32 @@ fn sit<S: Store, G: Gate, R: Wait>(
     seat.end = end;
 }
 
-/// Puts the pin into the seat of its client, and gives it back where there is none.
-pub(crate) fn place_pin<S: Store>(seats: &mut [Seat<S>], pin: Reader) -> Option<Reader>
-    requires empty { AllByRecursion (λ s. s.pin ≡ None) seats.old }
+/// Puts the pin into the seat of its client, unless a command of it is open, and gives it back where no seat took it.
+pub(crate) fn hand_in<S: Store>(seats: &mut [Seat<S>], pin: Reader) -> Option<Reader>
+    requires empty { HaveNone (pins_of seats.old) }
+    ensures some { IfSome result (λ r. (r ≡ pin) × (NoPin seats.old ⊎ (pin.asked ≢ None))) }
+    ensures none { IfNone result (HasPin (pins_of seats.new) × (pin.asked ≡ None)) }
+    ensures back { NoPin seats.old → result ≡ Some pin }
+    ensures pins { (plan : Plan) (front : Option History) (worker : ℕ) → PlacedFrom plan worker seats.old
+        → NoPin seats.old ⊎ IsPinOf plan.shard 0 front pin → PinsIdle plan front worker (pins_of seats.new) }
+    ensures length { length seats.new ≡ length seats.old }
+    ensures places { (plan : Plan) (worker : ℕ) → PlacedFrom plan worker seats.old → PlacedFrom plan worker seats.new }
+{
+    if pin.busy() {
+        return Some(pin);
+    }
+    place_pin(seats, pin)
+}
+
+// Puts the pin into the seat of its client, and gives it back where there is none.
+fn place_pin<S: Store>(seats: &mut [Seat<S>], pin: Reader) -> Option<Reader>
+    requires idle { pin.asked ≡ None }
+    requires empty { HaveNone (pins_of seats.old) }
     ensures some { IfSome result (λ r. (r ≡ pin) × NoPin seats.old) }
-    ensures none { IfNone result (HasPin seats.new) }
-    ensures pins { AllByRecursion (PinIs pin) seats.new }
+    ensures none { IfNone result (HasPin (pins_of seats.new)) }
+    ensures back { NoPin seats.old → result ≡ Some pin }
+    ensures pins { (plan : Plan) (front : Option History) (worker : ℕ) → PlacedFrom plan worker seats.old
+        → NoPin seats.old ⊎ IsPinOf plan.shard 0 front pin → PinsIdle plan front worker (pins_of seats.new) }
     ensures length { length seats.new ≡ length seats.old }
     ensures places { (plan : Plan) (worker : ℕ) → PlacedFrom plan worker seats.old → PlacedFrom plan worker seats.new }
 {
@@ -93,12 +115,25 @@ pub(crate) fn place_pin<S: Store>(seats: &mut [Seat<S>], pin: Reader) -> Option<
     place_pin(rest, pin)
 }
 
-/// Takes the pin out of the seat that has it.
-pub(crate) fn take_pin<S: Store>(seats: &mut [Seat<S>]) -> Option<Reader>
-    ensures some { HasPin seats.old → IsSome result }
-    ensures length { length seats.new ≡ length seats.old }
-    ensures pin { IfSome result (λ r. Among (λ s. s.pin ≡ Some r) seats.old) }
-    ensures same { SameButPin seats.old seats.new }
+/// Takes the pin out of the seat that has it, where no seat gave it back.
+pub(crate) fn hand_out<S: Store>(seats: &mut [Seat<S>], back: Option<Reader>) -> Reader
+    requires there { IfNone back (HasPin (pins_of seats.old)) }
+    ensures back { IfSome back (λ r. result ≡ r) }
+    ensures pin { IfNone back (Among (λ p. p ≡ Some result) (pins_of seats.old)) }
+{
+    if let Some(pin) = back {
+        return pin;
+    }
+    let Some(pin) = take_pin(seats) else {
+        unreachable!()
+    };
+    pin
+}
+
+// Takes the pin out of the seat that has it.
+fn take_pin<S: Store>(seats: &mut [Seat<S>]) -> Option<Reader>
+    ensures none { IfNone result (HasPin (pins_of seats.old) → ⊥) }
+    ensures some { IfSome result (λ r. Among (λ p. p ≡ Some r) (pins_of seats.old)) }
 {
     let Some((first, rest)) = seats.split_first_mut() else {
         return None;
@@ -195,8 +230,7 @@ pub(crate) fn deal<S: Store>(
     ensures numbers { NumberedFrom (view pass).low seats.new }
     ensures length { length seats.new ≡ length seats.old }
     ensures places { (plan : Plan) (worker : ℕ) → PlacedFrom plan worker seats.old → PlacedFrom plan worker seats.new }
-    ensures pins { (pin : _) → AllByRecursion (PinIs pin) seats.old → AllByRecursion (PinIs pin) seats.new }
-    ensures held { HasPin seats.old → HasPin seats.new }
+    ensures pins { pins_of seats.new ≡ pins_of seats.old }
 {
     let Some((first, rest)) = seats.split_first_mut() else {
         return Some(pass);
@@ -230,6 +264,7 @@ fn take_in<S: Store>(
     ensures begins { IsPrefix (view pass.old).gain (view pass.new).gain }
     ensures prefix { IsPrefixOf (view pass.new) seat.old }
     ensures end { end.new ≡ seat.old.end }
+    ensures pin { seat.new.pin ≡ seat.old.pin }
 {
     let Some(other) = seat.pass.take() else {
         unreachable!()
@@ -260,6 +295,7 @@ pub(crate) fn gather<S: Store>(
     ensures begins { IsPrefix (view pass.old).gain (view pass.new).gain }
     ensures prefix { AllByRecursion (IsPrefixOf (view pass.new)) seats.old }
     ensures ends { ends.new ≡ ends_of seats.old }
+    ensures pins { pins_of seats.new ≡ pins_of seats.old }
 {
     let Some((first, rest)) = seats.split_first_mut() else {
         return;
@@ -292,6 +328,7 @@ pub(crate) fn gather_all<S: Store>(
     ensures theirs { AllByRecursion (ShowsSeat (view result)) seats.old }
     ensures prefix { AllByRecursion (IsPrefixOf (view result)) seats.old }
     ensures ends { ends.new ≡ ends_of seats.old }
+    ensures pins { pins_of seats.new ≡ pins_of seats.old }
 {
     match kept {
         Some(pass) => {
@@ -320,6 +357,7 @@ fn gather_from<S: Store>(
     ensures theirs { AllByRecursion (ShowsSeat (view result)) seats.old }
     ensures prefix { AllByRecursion (IsPrefixOf (view result)) seats.old }
     ensures ends { ends.new ≡ ends_of seats.old }
+    ensures pins { pins_of seats.new ≡ pins_of seats.old }
 {
     let Some((first, rest)) = seats.split_first_mut() else {
         unreachable!()

@@ -8,8 +8,9 @@ ghost use Rattle.shared_store.specs.Trails.{entry_client};
 ghost use Rattle.appends_core.specs.Feeds.{IsFeed};
 ghost use Rattle.crew_core.specs.KeepingOn.{KeepsOn};
 ghost use Rattle.crew_core.specs.Working.{IsWorkersEntry, as_collector, as_compactor, as_pin, as_writer, is_pin, role_of};
+ghost use Rattle.crew.specs.declared.ends.WorkerEnd.TheVariants as ends;
 ghost use Rattle.crew.specs.Looping.{EndShown};
-ghost use Rattle.crew.specs.Pinning.{IsPinOf};
+ghost use Rattle.crew.specs.Pinning.{IsPinLeft, IsPinOf};
 ghost use Rattle.crew.specs.Posts.{SamePass, own_calls};
 
 use crate::collecting::CollectorWorker;
@@ -39,9 +40,9 @@ fn work<S: Store, G: Gate, W: Worker, R: Wait>(
     stop: Option<u64>,
 ) -> WorkerEnd
     requires ready { W.ready worker.old port.old.port.known.number (front_of S.history port.old.port.known) }
-    requires rests { (w : _) (client : ℕ) (front : Option History) → W.ready w client front → W.left w client front }
+    requires rests { (w : _) (client : ℕ) (front : Option History) → W.ready w client front → W.left w client front ends.Stopped }
     requires fresh { own_calls port.old.port.known ≡ 0 }
-    ensures left { W.left worker.new port.new.port.known.number (front_of S.history port.new.port.known) }
+    ensures left { W.left worker.new port.new.port.known.number (front_of S.history port.new.port.known) result }
     ensures shard { W.shard worker.new ≡ W.shard worker.old }
     ensures keeps { KeepsOn (IsWorkersEntry (W.role worker.old) (W.shard worker.old)) (W.shard worker.old) port.old.port.known.number
         (front_of S.history port.old.port.known) (front_of S.history port.new.port.known) }
@@ -75,13 +76,13 @@ fn alone<S: Store, G: Gate, W: Worker, R: Wait>(
     requires pass { IsPassOf told_of entry_client turnstile.now pass }
     requires fresh { own_calls (view pass) ≡ 0 }
     requires ready { W.ready worker.old (view pass).number (front_of S.history (view pass)) }
-    requires rests { (w : _) (client : ℕ) (front : Option History) → W.ready w client front → W.left w client front }
+    requires rests { (w : _) (client : ℕ) (front : Option History) → W.ready w client front → W.left w client front ends.Stopped }
     ensures pass { IsPassOf told_of entry_client turnstile.now result.0 }
     ensures same { SamePass (view pass) (view result.0) }
     ensures keeps { KeepsOn (IsWorkersEntry (W.role worker.old) (W.shard worker.old)) (W.shard worker.old)
         (view pass).number (front_of S.history (view pass)) (front_of S.history (view result.0)) }
     ensures end { EndShown S.history (W.role worker.old) (W.shard worker.old) stop (view result.0) result.1 }
-    ensures left { W.left worker.new (view result.0).number (front_of S.history (view result.0)) }
+    ensures left { W.left worker.new (view result.0).number (front_of S.history (view result.0)) result.1 }
     ensures shard { W.shard worker.new ≡ W.shard worker.old }
 {
     let mut port = WorkerPort::new(SharedPort::at(turnstile, pass), gate, number);
@@ -122,7 +123,7 @@ pub(crate) fn work_with<S: Store, G: Gate, R: Wait>(
         (view pass).number (front_of S.history (view pass)) (front_of S.history (view result.0)) }
     ensures end { EndShown S.history (role_of task.entry.job task.entry.appends.now) task.entry.shard task.entry.stop
         (view result.0) result.1 }
-    ensures pin { IfSome pin.new (λ r. IsPinOf task.entry.shard (view result.0).number (front_of S.history (view result.0)) r) }
+    ensures pin { IfSome pin.new (λ r. IsPinLeft task.entry.shard (view result.0).number (front_of S.history (view result.0)) r result.1) }
     ensures held { is_some pin.new ≡ is_some pin.old }
 {
     match pin.take() {
@@ -274,7 +275,7 @@ fn pin_alone<S: Store, G: Gate, R: Wait>(
     ensures keeps { KeepsOn (IsWorkersEntry as_pin task.entry.shard) task.entry.shard
         (view pass).number (front_of S.history (view pass)) (front_of S.history (view result.0)) }
     ensures end { EndShown S.history as_pin task.entry.shard task.entry.stop (view result.0) result.1 }
-    ensures pin { IsPinOf task.entry.shard (view result.0).number (front_of S.history (view result.0)) result.2 }
+    ensures pin { IsPinLeft task.entry.shard (view result.0).number (front_of S.history (view result.0)) result.2 result.1 }
 {
     let mut worker = PinWorker::new(task.shard, task.moment, pin, task.progress);
     let (pass, end) = alone(

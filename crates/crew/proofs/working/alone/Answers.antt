@@ -3,7 +3,6 @@ use Rattle.std.specs.Prelude.{◌≡◌}
 use Rattle.turnstile.specs.declared.views.View.{View}
 use Rattle.turnstile.specs.Passes.{view}
 use Rattle.store_core.specs.declared.entries.Entry.{Entry}
-use Rattle.shared_store.specs.Fronts.{front_of}
 use Rattle.shared_store.specs.Passes.{PortValue}
 use Rattle.crew.specs.Posts.{SamePass}
 use Rattle.crew.proofs.PortKeeping.{kept_pass}

@@ -1,4 +1,4 @@
-use Rattle.std.proofs.Common.{◌≡◌, sym, ap, subst, ◌∙◌}
+use Rattle.std.proofs.Common.{sym, ap, subst}
 use Rattle.turnstile.specs.Passes.{view}
 use Rattle.shared_store.specs.Fronts.{front_of}
 use Rattle.crew_core.specs.KeepingOn.{KeepsOn}

@@ -1,5 +1,4 @@
-use Rattle.crew_core.specs.Working.{IsWorkersEntry, as_collector}
-use Rattle.crew.proofs.PinTurning.{collected_ready, pin_past, turned_as_pin}
+use Rattle.crew.proofs.PinTurning.{collected_left, collected_ready, turned_as_pin}
 use Rattle.crew.proofs.pinning.PinWorker.collect.Goals as goal
 
 pub returns-clause-turned : goal.returns-clause-turned
@@ -16,6 +15,5 @@ returns-clause-ready g c =
 
 pub returns-clause-left : goal.returns-clause-left
 returns-clause-left g c =
-    let shard = c.args.self.now.collects.shard in
-    pin_past (IsWorkersEntry as_collector shard) shard shard (g.P.Port.client c.args.port.now) (g.P.Port.front c.args.port.now)
-    (g.P.Port.front c.poll_once.new.port) c.args.self.now.pin c.requires.idle c.poll_once.ensures.turned.keeps c.requires.ready.pin
+    collected_left (g.P.Port.client c.args.port.now) (g.P.Port.front c.args.port.now) (g.P.Port.front c.poll_once.new.port) c.args.self.now
+    c.poll_once.result c.requires.ready c.requires.idle c.poll_once.ensures.turned.keeps

@@ -1,4 +1,4 @@
-use Rattle.std.proofs.Common.{None, Option, inl, subst, sym}
+use Rattle.std.proofs.Common.{Option, inl, subst, sym}
 use Rattle.std.specs.Prelude.{IfSome}
 use Rattle.store_core.specs.declared.shards.ShardId.{ShardId}
 use Rattle.history_core.specs.declared.asked.Asked.{Asked}
