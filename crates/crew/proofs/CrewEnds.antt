@@ -28,7 +28,7 @@ use Rattle.history_core.specs.Discipline.{Lawful}
 use Rattle.history_core.proofs.Prefixes.{prefix_lawful}
 use Rattle.crew_core.specs.declared.jobs.Job.{Job}
 use Rattle.crew_core.specs.Keeping.{Keeps}
-use Rattle.crew_core.specs.Working.{IsWorkersEntry, Role, as_collector, as_compactor, as_writer, role_of}
+use Rattle.crew_core.specs.Working.{IsWorkersEntry, Role, as_collector, as_compactor, as_pin, as_writer, role_of}
 use Rattle.crew_core.specs.Competing.{FromWorkers}
 use Rattle.crew_core.proofs.CrewLaws.{competing_law, lawful_law, readers_law}
 use Rattle.crew_core.proofs.Keeping.{entries_joined, keeps_first, of_entries}
@@ -39,7 +39,7 @@ use Rattle.turnstile.specs.Passes.{IsPassOf, first_value, view}
 use Rattle.shared_store.specs.Passes.{told_of}
 use Rattle.crew.specs.declared.ends.WorkerEnd.{WorkerEnd}
 use Rattle.crew.specs.declared.ends.WorkerEnd.TheVariants as ends
-use Rattle.crew.specs.Ends.{CollectorMeans, CompactorMeans, EndMeans, HasMerged, IsAnswered, IsMergeAnswered, Once, UpperIs, WasCollected, WriterMeans}
+use Rattle.crew.specs.Ends.{CollectorMeans, CompactorMeans, EndMeans, HasMerged, IsAnswered, IsMergeAnswered, Once, PinMeans, UpperIs, WasCollected, WriterMeans}
 use Rattle.crew.specs.Looping.{EndCounts}
 use Rattle.crew.specs.declared.seats.Seat.{Seat}
 use Rattle.crew.specs.Crews.{CrewRan, CrewRanOn}
@@ -98,7 +98,7 @@ crew_ran plan h gain kin feed each keeps = record {
 
 module _ {S : Type 0} where
   -- where the history wasn't told nothing is
-  front_none : (history : S → Option History) (v : View S Entry) → opened history v ≡ None → front_of history v ≡ None
+  pub front_none : (history : S → Option History) (v : View S Entry) → opened history v ≡ None → front_of history v ≡ None
   front_none history v e = go v.start e
     where
       on : (o : Option History) (xs ys : List Entry) → extended o xs ≡ None → extended o (xs ++ ys) ≡ None
@@ -247,11 +247,23 @@ means_grown role shard client h xs ys end (rest, is) = by role end
     of_collector ends.Memory k = tt
     of_collector (ends.Damaged damage) k = tt
 
+    of_pin : (e : WorkerEnd) → PinMeans shard client (Some (with_entries h xs)) e → PinMeans shard client (Some (with_entries h ys)) e
+    of_pin ends.Finished k = on (WasCollected shard client) k
+    of_pin (ends.Misfit upper) k = absurd k
+    of_pin (ends.MembersFull version) k = absurd k
+    of_pin (ends.Heavy weight) k = absurd k
+    of_pin ends.Spent k = tt
+    of_pin ends.Stopped k = tt
+    of_pin ends.Faulted k = tt
+    of_pin ends.Memory k = tt
+    of_pin (ends.Damaged damage) k = tt
+
     by : (r : Role) (e : WorkerEnd) → EndMeans r shard client (Some (with_entries h xs)) e →
         EndMeans r shard client (Some (with_entries h ys)) e
     by (as_writer appends) e k = of_writer appends e k
     by as_compactor e k = of_compactor e k
     by as_collector e k = of_collector e k
+    by as_pin e k = of_pin e k
 
 module _ {S : Type 0} {G : Ghosts S} (appends : List FeedAppend) (shard : ShardId) (t : Turnstile (CountedStore S G) S Entry) where
   pub all_worked : (xs ys : List (Seat S G)) → length ys ≡ length xs →

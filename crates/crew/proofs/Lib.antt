@@ -10,6 +10,8 @@ mod MergeCarries
 mod MergeTurning
 mod Numbers
 mod PinFollows
+mod PinSeats
+mod PinTurning
 mod PortKeeping
 mod Reaching
 mod RoleKeeping

@@ -21,7 +21,7 @@ use Rattle.history_core.specs.Upkeep.{LegalCollectBack, LegalMergeBack}
 use Rattle.load_core.specs.Fronts.{Backwards, WhereLawful}
 use Rattle.appends_core.specs.Feeds.{end_of_feed}
 use Rattle.crew_core.specs.Completing.{IsBound}
-use Rattle.crew_core.specs.Working.{Role, as_collector, as_compactor, as_writer}
+use Rattle.crew_core.specs.Working.{Role, as_collector, as_compactor, as_pin, as_writer}
 use Rattle.crew.specs.declared.ends.WorkerEnd.{WorkerEnd}
 use Rattle.crew.specs.declared.ends.WorkerEnd.TheVariants as ends
 
@@ -136,8 +136,14 @@ CollectorMeans shard client front (ends.Heavy weight) = ⊥
 CollectorMeans shard client front ends.Spent = ⊥
 CollectorMeans shard client front _ = ⊤
 
+-- Of the one that works as the pin's client the same, but that its renewals may be told that no number is left.
+abbrev pub PinMeans : ShardId → ℕ → Option History → WorkerEnd → Type 0
+PinMeans shard client front ends.Spent = ⊤
+PinMeans shard client front end = CollectorMeans shard client front end
+
 -- what an end says, by what the worker is for
 abbrev pub EndMeans : Role → ShardId → ℕ → Option History → WorkerEnd → Type 0
 EndMeans (as_writer appends) shard client front end = WriterMeans appends shard client front end
 EndMeans as_compactor shard client front end = CompactorMeans shard client front end
 EndMeans as_collector shard client front end = CollectorMeans shard client front end
+EndMeans as_pin shard client front end = PinMeans shard client front end

@@ -22,7 +22,7 @@ use Rattle.state_core.specs.declared.kinds.Kind.{Kind}
 use Rattle.state_core.specs.declared.kinds.Kind.TheVariants.{Writer, Keeper}
 use Rattle.state_core.specs.declared.members.Member.{Member}
 use Rattle.state_core.specs.declared.transitions.Transition.{Transition}
-use Rattle.state_core.specs.declared.transitions.Transition.TheVariants.{Join, Leave, Merge}
+use Rattle.state_core.specs.declared.transitions.Transition.TheVariants.{Join, Leave, Merge, Renew}
 use Rattle.state_core.specs.States.{ShardState, SinceIs, greater_of, is_reader, least_since, or_least}
 use Rattle.state_core.specs.Steps.{Applies, init, without}
 use Rattle.state_core.specs.VersionReading.{version_in}
@@ -45,7 +45,7 @@ use Rattle.crew_core.specs.declared.jobs.Job.{Job}
 use Rattle.crew_core.specs.declared.jobs.Job.TheVariants as jobs
 use Rattle.crew_core.specs.Competing.{HasAppended, HasCollection}
 use Rattle.appends_core.specs.Feeds.{FollowOn, from_upper, rows_of, weight_of_all}
-use Rattle.crew_core.specs.Working.{CarriesWorkers, IsOneOf, IsOwnLeave, IsOwnMerge, IsWorkersEntry, IsWorkersStep, role_of}
+use Rattle.crew_core.specs.Working.{CarriesWorkers, IsOneOf, IsOwnLeave, IsOwnMerge, IsOwnRenewal, IsWorkersEntry, IsWorkersStep, role_of}
 use Rattle.crew_core.proofs.Accepting.{storers_law}
 use Rattle.crew_core.proofs.Commits.{Begun, Stepped, commits_there, what_commits}
 use Rattle.appends_core.proofs.FeedSteps.{end_on, rows_on, weight_on}
@@ -108,6 +108,13 @@ join_leaves s x t kind now lease is a = let b = subst (λ (y : Transition). Appl
 merge_leaves : (s : ShardState) (x : Transition) (t : ShardState) (member token : ℕ) (left right merged : Batch) →
     x ≡ Merge member token left right merged → Applies s x t → Leaves s x t
 merge_leaves s x t member token left right merged is a = let b = subst (λ (y : Transition). Applies s y t) is a in record {
+  since = ap (λ (u : ShardState). u.since) b.makes.effect;
+  upper = ap (λ (u : ShardState). u.upper) b.makes.effect;
+  weight = ap (λ (u : ShardState). u.weight) b.makes.effect;
+}
+
+renew_leaves : (s : ShardState) (x : Transition) (t : ShardState) (member now : ℕ) → x ≡ Renew member now → Applies s x t → Leaves s x t
+renew_leaves s x t member now is a = let b = subst (λ (y : Transition). Applies s y t) is a in record {
   since = ap (λ (u : ShardState). u.since) b.makes.effect;
   upper = ap (λ (u : ShardState). u.upper) b.makes.effect;
   weight = ap (λ (u : ShardState). u.weight) b.makes.effect;
@@ -349,6 +356,10 @@ module _ (appends : List FeedAppend) (follow : FollowOn (Some 0) appends) (shard
         (merge_leaves s.from s.step s.to m.member m.token m.left m.right m.merged m.step_is s.applies)
         (merge_adds_none shard list start e es m.member m.token m.left m.right m.merged s m.step_is) c
 
+    renews_one : (s : Stepped shard list start e es) → IsOwnRenewal shard own s.step → Come start es → Come start (e ∷ es)
+    renews_one s (member, now, is, joined) c = leaves s (renew_leaves s.from s.step s.to member now is s.applies)
+        (subst (λ (y : Transition). appended_by (replay_back start es) (Some (s.to, y)) ≡ []) (sym is) refl) c
+
     -- by what a worker's step is
     steps : (s : Stepped shard list start e es) (job : Job) → IsWorkersStep (role_of job appends) shard own s.step → Come start es →
         Come start (e ∷ es)
@@ -359,7 +370,7 @@ module _ (appends : List FeedAppend) (follow : FollowOn (Some 0) appends) (shard
     steps s jobs.Merge (inr (inl leave)) c = leaves_one Keeper refl s leave c
     steps s jobs.Merge (inr (inr m)) c = merges_one s m c
     steps s jobs.Collect bad c = absurd bad
-    steps s jobs.Pin bad c = absurd bad
+    steps s jobs.Pin r c = renews_one s r c
 
     pub come_on : (job : Job) → IsWorkersEntry (role_of job appends) shard start es e → Come start es → Come start (e ∷ es)
     come_on job p c = elim (bool_cases (commits_on shard (replay_back start es) e.call e.outcome)) [

@@ -29,7 +29,7 @@ use Rattle.history_core.proofs.Quiet.{Quiet, last_stays, quiet_back}
 use Rattle.crew_core.specs.declared.jobs.Job.{Job}
 use Rattle.crew_core.specs.declared.jobs.Job.TheVariants as jobs
 use Rattle.crew_core.specs.Competing.{HasReader}
-use Rattle.crew_core.specs.Working.{CarriesWorkers, IsOneOf, IsOwnLeave, IsOwnMerge, IsWorkersEntry, IsWorkersStep, role_of}
+use Rattle.crew_core.specs.Working.{CarriesWorkers, IsOneOf, IsOwnLeave, IsOwnMerge, IsOwnRenewal, IsWorkersEntry, IsWorkersStep, role_of}
 use Rattle.crew_core.proofs.Commits.{Stepped, commits_there, what_commits}
 use Rattle.crew_core.proofs.Competing.{own_kind, same_version}
 
@@ -84,6 +84,12 @@ module _ (member since : ℕ) where
       let b = subst (λ (y : Transition). Applies s y t) m.step_is a in
       subst Reads (sym b.makes.effect) (keep_changed m.member _ (λ q p. p) s.members h)
 
+  renewal_keeps : (shard : ShardId) (own : List Answered) (s : ShardState) (x : Transition) (t : ShardState) →
+      IsOwnRenewal shard own x → Applies s x t → Reads s → Reads t
+  renewal_keeps shard own s x t (renewed, now, is, joined) a h =
+      let b = subst (λ (y : Transition). Applies s y t) is a in
+      subst Reads (sym b.makes.effect) (keep_changed renewed _ (λ q p. p) s.members h)
+
   no_writer : Writer ≡ Reader → ⊥
   no_writer e = cc
 
@@ -111,7 +117,7 @@ module _ (member since : ℕ) where
     steps s jobs.Merge (inr (inl leave)) h = leaves_on Keeper no_keeper s leave h
     steps s jobs.Merge (inr (inr m)) h = merge_keeps shard own s.from s.step s.to m s.applies h
     steps s jobs.Collect bad h = absurd bad
-    steps s jobs.Pin bad h = absurd bad
+    steps s jobs.Pin r h = renewal_keeps shard own s.from s.step s.to r s.applies h
 
     pub reads_on : (job : Job) → IsWorkersEntry (role_of job appends) shard start es e → HasReader shard member since start es →
         HasReader shard member since start (e ∷ es)

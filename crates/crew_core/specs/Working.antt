@@ -12,9 +12,9 @@ use Rattle.store_core.specs.Stores.{Stored}
 use Rattle.store_core.specs.Ports.{Answered}
 use Rattle.store_core.specs.Newest.{mine_back}
 use Rattle.state_core.specs.declared.kinds.Kind.{Kind}
-use Rattle.state_core.specs.declared.kinds.Kind.TheVariants.{Writer, Keeper}
+use Rattle.state_core.specs.declared.kinds.Kind.TheVariants.{Writer, Reader, Keeper}
 use Rattle.state_core.specs.declared.transitions.Transition.{Transition}
-use Rattle.state_core.specs.declared.transitions.Transition.TheVariants.{Join, Leave, Append, Merge}
+use Rattle.state_core.specs.declared.transitions.Transition.TheVariants.{Join, Leave, Renew, Append, Merge}
 use Rattle.state_core.specs.Lists.{Among}
 use Rattle.state_core.specs.States.{ShardState}
 use Rattle.state_core.specs.VersionReading.{version_in}
@@ -53,6 +53,10 @@ pub record IsOwnMerge (shard : ShardId) (own : List Answered) (x : Transition) :
   pub step_is : x ≡ Merge member token left right merged
   pub joined : JoinedAs Keeper own shard member
 
+-- the transition is a renewal of a member that the client joined as a reader
+abbrev pub IsOwnRenewal : ShardId → List Answered → Transition → Type 0
+IsOwnRenewal shard own x = (member : ℕ) × (now : ℕ) × (x ≡ Renew member now) × JoinedAs Reader own shard member
+
 -- whether a worker works as the client that the pin reads as
 abbrev pub is_pin : Job → Bool
 is_pin jobs.Pin = true
@@ -63,23 +67,27 @@ pub data Role : Type 0 where
   as_writer : List FeedAppend → Role
   as_compactor : Role
   as_collector : Role
+  as_pin : Role
 
 abbrev pub role_of : Job → List FeedAppend → Role
 role_of jobs.Write appends = as_writer appends
 role_of jobs.Merge appends = as_compactor
 role_of jobs.Collect appends = as_collector
-role_of jobs.Pin appends = as_collector
+role_of jobs.Pin appends = as_pin
 
 -- What a worker may commit. A writer of a crew: the join of a writer, the leave of one that it joined, and its appends. A compactor: the
--- join of a keeper, the leave of one that it joined, and merges. A collector: nothing.
+-- join of a keeper, the leave of one that it joined, and merges. A collector: nothing. The one that works as the client that the pin reads
+-- as: renewals of a reader that this client joined.
 abbrev pub IsWorkersStep : Role → ShardId → List Answered → Transition → Type 0
 IsWorkersStep (as_writer appends) shard own x = (x ≡ Join Writer 0 0) ⊎ (IsOwnLeave Writer shard own x ⊎ IsOneOf appends own x)
 IsWorkersStep as_compactor shard own x = IsKeepersJoin x ⊎ (IsOwnLeave Keeper shard own x ⊎ IsOwnMerge shard own x)
 IsWorkersStep as_collector shard own x = ⊥
+IsWorkersStep as_pin shard own x = IsOwnRenewal shard own x
 
 -- whether a worker may make the first version and store parts: a collector may not
 abbrev pub MayAdd : Role → Type 0
 MayAdd as_collector = ⊥
+MayAdd as_pin = ⊥
 MayAdd _ = ⊤
 
 -- A Cas past a version is of the crew's shard, and its bytes carry such a transition; the first version and parts come from those that may
