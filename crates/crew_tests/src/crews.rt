@@ -279,9 +279,9 @@ fn a_pin_rests_without_collectors(rt: HostRuntime) -> Result<(), Fail> {
     Ok(())
 }
 
-// The first collector is stopped midway in its first renewal, which stays open.
+// A first collector that is stopped before its first call doesn't renew the pin.
 #[test]
-fn a_renewal_stays_open(rt: HostRuntime) -> Result<(), Fail> {
+fn a_stopped_collector_renews_nothing(rt: HostRuntime) -> Result<(), Fail> {
     let mut stops = StopList::new(rt.alloc());
     stops.push(Stop {
         worker: 0,
