@@ -279,9 +279,9 @@ fn a_pin_rests_without_collectors(rt: HostRuntime) -> Result<(), Fail> {
     Ok(())
 }
 
-// A first collector that is stopped before its first call doesn't renew the pin.
+// The first collector is stopped before its first call, and gives the pin back.
 #[test]
-fn a_stopped_collector_renews_nothing(rt: HostRuntime) -> Result<(), Fail> {
+fn a_stopped_collector_gives_the_pin_back(rt: HostRuntime) -> Result<(), Fail> {
     let mut stops = StopList::new(rt.alloc());
     stops.push(Stop {
         worker: 0,
@@ -295,10 +295,11 @@ fn a_stopped_collector_renews_nothing(rt: HostRuntime) -> Result<(), Fail> {
         collectors: 1,
         stops,
     };
-    let Some((left, cas, _)) = try_pinned(&rt, rt.alloc(), &plan)? else {
+    let Some((left, cas, busy)) = try_pinned(&rt, rt.alloc(), &plan)? else {
         panic!(rt; "no crew")
     };
-    assert_eq!(rt; (left.finished, left.stopped, cas), (0, 1, 2));
+    assert_eq!(rt; (left.finished, left.stopped), (0, 1));
+    assert_eq!(rt; (cas, busy), (2, false));
     Ok(())
 }
 

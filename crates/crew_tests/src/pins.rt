@@ -8,7 +8,11 @@ use std::alloc::Global;
 use store_core::{ShardId, Store};
 
 /// The store once a reader of the shard has joined it, as client 0; None where it didn't.
-pub(crate) fn with_pin<S: Store>(alloc: Global, store: S, shard: ShardId) -> Option<(S, Reader)>
+pub(crate) fn with_pin<S: Store + Drop>(
+    alloc: Global,
+    store: S,
+    shard: ShardId,
+) -> Option<(S, Reader)>
     ensures { IfSome result (λ made. IsPinOf shard 0 (S.history made.0) made.1) }
 {
     let mut port = SolePort { store, client: 0 };
