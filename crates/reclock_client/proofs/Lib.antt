@@ -6,6 +6,13 @@ pub mod MintLaws
 pub mod Examples
 pub mod MintFits
 pub mod Beginnings
+pub mod Turning
+pub mod ReadTurning
+pub mod Members
+pub mod Turned
+pub mod SliceFits
+pub mod Fitting
+pub mod StartTurns
 pub mod Raising
 pub mod Sparing
 pub mod Passing

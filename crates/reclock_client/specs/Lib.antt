@@ -5,6 +5,7 @@ pub mod Beginning
 pub mod Looking
 pub mod Starting
 pub mod Parts
+pub mod Turns
 pub mod Operators
 pub mod Polling
 pub mod Known
