@@ -1,5 +1,6 @@
 -- Nothing stands against the inner command of an operator's step.
-use Rattle.std.proofs.Common.{◌≡◌, ◌≢◌, ℕ, ◌≤◌, Bool, true, false, cond, not, Option, Some, None, List, [], length, refl, sym, ap, subst, ◌∙◌, arith}
+use Rattle.std.proofs.Common.{◌≡◌, ◌≢◌, ℕ, ◌≤◌, Bool, true, false, cond, not, Option, Some, None, List, [], length, refl, sym, ap, subst}
+use Rattle.std.proofs.Common.{◌∙◌, arith}
 use Rattle.std.proofs.lemmas.Bool.Decides.{nat_tests}
 use Rattle.std.specs.Prelude.{⊤, IsSome, is_some, nat_lt, position, ◌==◌}
 use Rattle.update_core.specs.declared.updates.Update.{Update}
@@ -23,7 +24,7 @@ use Rattle.reclock_client.specs.declared.steps.Step.{Step}
 use Rattle.reclock_client.specs.declared.steps.Step.TheVariants as steps
 use Rattle.reclock_client.specs.Minting.{rises}
 use Rattle.reclock_client.specs.Starting.{MayAppend}
-use Rattle.reclock_client.specs.Turns.{Clients, Heard, InTurn, IsFew, Takes, clients, heard}
+use Rattle.reclock_client.specs.Turns.{Clients, Heard, AtStep, IsFew, Takes, clients, heard}
 use Rattle.reclock_client.proofs.MintFits.{mint_fits}
 use Rattle.reclock_client.proofs.Turning.{serves_at}
 use Rattle.reclock_client.proofs.SliceFits.{published_few, published_inside}
@@ -41,14 +42,17 @@ fewer n h = grind (arith, nat_tests)
 
 module _ (w : Writer) (rows : List Update) (from : ℕ) (to : Option ℕ) (free : close_fault w ≡ None) where
   may_append : (w.token ≢ most → range_fault w rows from to ≡ None) → MayAppend (append_fault w rows from to)
-  may_append fits = subst (λ (f : Option BeginFault). MayAppend (or_fault f (range_fault w rows from to))) (sym free) (by (w.token == most) refl)
+  may_append fits = subst (λ (f : Option BeginFault). MayAppend (or_fault f (range_fault w rows from to))) (sym free) (by
+      (w.token == most) refl)
     where
       by : (b : Bool) → (w.token == most) ≡ b → MayAppend (range_fault w rows from to)
       by true e = subst (λ (b : Bool). MayAppend (cond b (Some faults.TokensSpent) (cond (not (covers to from)) (Some faults.EmptyRange)
-          (cond (nat_lt 65536 (length rows)) (Some (faults.TooMany (length rows))) (row_fault (position (is_outside from to) rows)))))) (sym e) tt
+          (cond (nat_lt 65536 (length rows)) (Some (faults.TooMany (length rows))) (row_fault (position (is_outside from to) rows))))))
+          (sym e) tt
       by false e = subst MayAppend (sym (fits (not_most w.token e))) tt
 
-  slice_may : covers to from ≡ true → length rows ≤ 65536 → position (is_outside from to) rows ≡ None → MayAppend (append_fault w rows from to)
+  slice_may : covers to from ≡ true → length rows ≤ 65536 → position (is_outside from to) rows ≡ None →
+      MayAppend (append_fault w rows from to)
   slice_may forward few inside = may_append (λ token.
       (λ i. cond (unspent w.token token i) (Some faults.TokensSpent) (cond (ap not forward i) (Some faults.EmptyRange)
       (cond (fewer (length rows) few i) (Some (faults.TooMany (length rows))) (row_fault (inside i))))))
@@ -87,7 +91,7 @@ OfReader steps.Next = ⊤
 OfReader steps.LeaveReader = ⊤
 OfReader other = ⊥
 
-has_remap : (k : Clients) (h : Heard) (errand : Errand) (step : Step) → OfRemap step → Takes k h errand step → IsSome k.remap_member
+pub has_remap : (k : Clients) (h : Heard) (errand : Errand) (step : Step) → OfRemap step → Takes k h errand step → IsSome k.remap_member
 has_remap k h (errands.Mint t seen) (steps.AppendRemap from) here t_ = t_.0.0
 has_remap k h (errands.Mint t seen) steps.LeaveRemap here t_ = t_.0
 has_remap k h errands.Close steps.LeaveRemap here t_ = t_.0
@@ -100,7 +104,7 @@ has_remap k h (errands.Publish rows) steps.LeaveRemap here t_ = absurd t_
 has_remap k h errands.Close (steps.AppendRemap from) here t_ = absurd t_
 has_remap k h errand other here t_ = absurd here
 
-has_data : (k : Clients) (h : Heard) (errand : Errand) (step : Step) → OfData step → Takes k h errand step → IsSome k.data_member
+pub has_data : (k : Clients) (h : Heard) (errand : Errand) (step : Step) → OfData step → Takes k h errand step → IsSome k.data_member
 has_data k h (errands.Publish rows) (steps.AppendData from) here t_ = t_.0.2
 has_data k h (errands.Publish rows) steps.LeaveData here t_ = t_.2
 has_data k h errands.Close steps.LeaveData here t_ = t_
@@ -113,7 +117,7 @@ has_data k h (errands.Mint t seen) steps.LeaveData here t_ = absurd t_
 has_data k h errands.Close (steps.AppendData from) here t_ = absurd t_
 has_data k h errand other here t_ = absurd here
 
-has_reader : (k : Clients) (h : Heard) (errand : Errand) (step : Step) → OfReader step → Takes k h errand step → IsSome k.reader_member
+pub has_reader : (k : Clients) (h : Heard) (errand : Errand) (step : Step) → OfReader step → Takes k h errand step → IsSome k.reader_member
 has_reader k h errands.Sync steps.Snapshot here t_ = t_.0.1
 has_reader k h errands.Sync steps.Listen here t_ = t_.0.1
 has_reader k h errands.Sync steps.Next here t_ = t_.0.1
@@ -160,7 +164,7 @@ abbrev published : Option Errand → List SourceRow
 published (Some (errands.Publish rows)) = rows
 published other = []
 
-module _ (o : Operator) (turn : InTurn o) (busy : IsSome o.course.errand) (step : Step) (at : o.course.step ≡ step) where
+module _ (o : Operator) (turn : AtStep o) (busy : IsSome o.course.errand) (step : Step) (at : o.course.step ≡ step) where
   pub remap_free : OfRemap step → o.remap_writer.asked ≡ None → close_fault o.remap_writer ≡ None
   remap_free here idle = serves_at o turn busy step at (λ errand e s. free_of o.remap_writer.asked o.remap_writer.member idle
       (has_remap (clients o) (heard o.course) errand step here s.takes))
@@ -173,7 +177,7 @@ module _ (o : Operator) (turn : InTurn o) (busy : IsSome o.course.errand) (step 
   read_free here idle = serves_at o turn busy step at (λ errand e s. read_free_of o.reader.asked o.reader.member idle
       (has_reader (clients o) (heard o.course) errand step here s.takes))
 
-module _ (o : Operator) (turn : InTurn o) (busy : IsSome o.course.errand) where
+module _ (o : Operator) (turn : AtStep o) (busy : IsSome o.course.errand) where
   -- the next step of a listen, which stands
   pub next_free : o.course.step ≡ steps.Next → o.reader.asked ≡ None → reads.next_fault o.reader ≡ None
   next_free at idle = subst (λ (f : Option BeginFault). reads.listen_fault f o.reader.listen ≡ None)
@@ -192,7 +196,8 @@ module _ (o : Operator) (turn : InTurn o) (busy : IsSome o.course.errand) where
   pub is_mint : (from : ℕ) → o.course.step ≡ steps.AppendRemap from → IsMint o from
   is_mint from at = serves_at o turn busy (steps.AppendRemap from) at (λ errand e s. by errand e s.takes)
     where
-      by : (errand : Errand) → o.course.errand ≡ Some errand → Takes (clients o) (heard o.course) errand (steps.AppendRemap from) → IsMint o from
+      by : (errand : Errand) → o.course.errand ≡ Some errand → Takes (clients o) (heard o.course) errand (steps.AppendRemap from) →
+          IsMint o from
       by (errands.Mint t seen) e h = record { time = t; seen = seen; is = e; before = h.1 }
       by other e h = absurd h
 

@@ -13,6 +13,10 @@ pub mod Turned
 pub mod SliceFits
 pub mod Fitting
 pub mod StartTurns
+pub mod Owning
+pub mod OwnPolls
+pub mod KnownStays
+pub mod Proposing
 pub mod Raising
 pub mod Sparing
 pub mod Passing

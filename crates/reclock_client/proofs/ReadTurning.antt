@@ -16,7 +16,8 @@ use Rattle.reclock_client.specs.declared.errands.Errand.TheVariants as errands
 use Rattle.reclock_client.specs.declared.intakes.Intake.TheVariants as intakes
 use Rattle.reclock_client.specs.declared.steps.Step.{Step}
 use Rattle.reclock_client.specs.declared.steps.Step.TheVariants as steps
-use Rattle.reclock_client.specs.Commands.{after_join_reader, after_leave_reader, after_listen, after_snapshot, ends, goes, minted_at, nothing_yet}
+use Rattle.reclock_client.specs.Commands.{after_join_reader, after_leave_reader, after_listen, after_snapshot, ends, goes, minted_at}
+use Rattle.reclock_client.specs.Commands.{nothing_yet}
 use Rattle.reclock_client.specs.Commands.{read_all, strange, with_changes, with_content, with_late, with_listen, with_step}
 use Rattle.reclock_client.specs.Reading.{foreign_time, in_time}
 use Rattle.reclock_client.specs.Turns.{Clients, HasAll, Heard, IsFew, Listens, Reads, Serves, Takes, Turn, heard}
@@ -53,7 +54,8 @@ for_reading k h errands.Close steps.Next is t = absurd t
 for_reading k h errands.Close other is t = absurd is
 
 -- what such an errand takes is what a reading does
-pub takes_read : (k : Clients) (h : Heard) (errand : Errand) (step : Step) → ForReading errand → IsReadStep step → Reads k h step → Takes k h errand step
+pub takes_read : (k : Clients) (h : Heard) (errand : Errand) (step : Step) → ForReading errand → IsReadStep step → Reads k h step →
+    Takes k h errand step
 takes_read k h errands.Sync step for_ is r = r
 takes_read k h (errands.Mint at seen) steps.Snapshot for_ is r = r
 takes_read k h (errands.Mint at seen) steps.Listen for_ is r = r
@@ -63,7 +65,8 @@ takes_read k h errands.Open step for_ is r = absurd for_
 takes_read k h (errands.Publish rows) step for_ is r = absurd for_
 takes_read k h errands.Close step for_ is r = absurd for_
 
-reads_taken : (k : Clients) (h : Heard) (errand : Errand) (step : Step) → ForReading errand → IsReadStep step → Takes k h errand step → Reads k h step
+reads_taken : (k : Clients) (h : Heard) (errand : Errand) (step : Step) → ForReading errand → IsReadStep step →
+    Takes k h errand step → Reads k h step
 reads_taken k h errands.Sync step for_ is t = t
 reads_taken k h (errands.Mint at seen) steps.Snapshot for_ is t = t
 reads_taken k h (errands.Mint at seen) steps.Listen for_ is t = t

@@ -166,9 +166,9 @@ module _ (o : Operator) (s : IsSound o) (busy : IsSome o.course.errand) where
   -- ---- a poll: the command goes on, or its machine rests
 
   pub remap_polled : (w : Writer) (c : Course) (n : ℕ) → part_of o.course.step ≡ parts.RemapWriter → writers.IsSound w →
-      writers.shard_of w ≡ o.remap → IsCourse c → (c ≡ o.course) ⊎ (w.asked ≡ None) →
+      writers.shard_of w ≡ o.remap → IsCourse c → ((c ≡ o.course) × (w.asked ≡ o.remap_writer.asked)) ⊎ (w.asked ≡ None) →
       IsSound (record o { remap_writer = w; course = c; calls = n })
-  remap_polled w c n turn sound shard course (inl same) =
+  remap_polled w c n turn sound shard course (inl (same, still)) =
       subst (λ (x : Course). IsSound (record o { remap_writer = w; course = x; calls = n })) (sym same)
       (remap_begun w o.course.step n turn turn sound shard)
   remap_polled w c n turn sound shard course (inr idle) =
@@ -177,9 +177,9 @@ module _ (o : Operator) (s : IsSound o) (busy : IsSome o.course.errand) where
       (inl idle, rest.0, rest.1, rest.2)
 
   pub data_polled : (w : Writer) (c : Course) (n : ℕ) → part_of o.course.step ≡ parts.DataWriter → writers.IsSound w →
-      writers.shard_of w ≡ o.data_shard → IsCourse c → (c ≡ o.course) ⊎ (w.asked ≡ None) →
+      writers.shard_of w ≡ o.data_shard → IsCourse c → ((c ≡ o.course) × (w.asked ≡ o.data_writer.asked)) ⊎ (w.asked ≡ None) →
       IsSound (record o { data_writer = w; course = c; calls = n })
-  data_polled w c n turn sound shard course (inl same) =
+  data_polled w c n turn sound shard course (inl (same, still)) =
       subst (λ (x : Course). IsSound (record o { data_writer = w; course = x; calls = n })) (sym same)
       (data_begun w o.course.step n turn turn sound shard)
   data_polled w c n turn sound shard course (inr idle) =

@@ -27,19 +27,20 @@ use Rattle.reclock_client.specs.declared.steps.Step.{Step}
 use Rattle.reclock_client.specs.declared.steps.Step.TheVariants as steps
 use Rattle.reclock_client.specs.Operators.{Follows, IsOpen}
 use Rattle.reclock_client.specs.Parts.{part_of}
-use Rattle.reclock_client.specs.Polling.{BeginsAppend, DataBegun, DataStarts, Halts, ReadStarts, RemapBegun, RemapStarts, bound, mint_rows, slice_rows}
-use Rattle.reclock_client.specs.Turns.{Clients, InTurn, Listens, Reads, Serves, Takes, clients, heard}
+use Rattle.reclock_client.specs.Polling.{BeginsAppend, DataBegun, DataStarts, Halts, ReadStarts, RemapBegun, RemapStarts, bound}
+use Rattle.reclock_client.specs.Minting.{mint_rows, slice_rows}
+use Rattle.reclock_client.specs.Turns.{Clients, AtStep, Listens, Reads, Serves, Takes, clients, heard}
 use Rattle.reclock_client.proofs.Passing.{waiting_follows}
 use Rattle.reclock_client.proofs.ReadTurning.{IsReadStep, syncs_or_mints, takes_read}
 use Rattle.reclock_client.proofs.Turning.{serves_at, serves_on, some_same}
 
 -- ---- rows are bound
 
-pub bound_turn : (o : Operator) (c : Course) → c ≡ bound o.course → InTurn o → InTurn (record o { course = c })
-bound_turn o c is turn = subst (λ (x : Course). InTurn (record o { course = x })) (sym is) turn
+pub bound_turn : (o : Operator) (c : Course) → c ≡ bound o.course → AtStep o → AtStep (record o { course = c })
+bound_turn o c is turn = subst (λ (x : Course). AtStep (record o { course = x })) (sym is) turn
 
-pub halts_turn : (o : Operator) (c : Course) → Halts o.course c → InTurn o → InTurn (record o { course = c })
-halts_turn o c h turn = subst (λ (x : Course). InTurn (record o { course = x })) (sym h.same) turn
+pub halts_turn : (o : Operator) (c : Course) → Halts o.course c → AtStep o → AtStep (record o { course = c })
+halts_turn o c h turn = subst (λ (x : Course). AtStep (record o { course = x })) (sym h.same) turn
 
 -- ---- which steps are the reader's
 
@@ -76,12 +77,12 @@ append_member (Some rows) from old new begun.Spent (spent, same) = ap (λ (w : W
 close_member : (old new : Writer) → Closing old new → new.member ≡ old.member
 close_member old new (member, is, after) = ap (λ (w : Writer). w.member) after
 
-module _ (o new : Operator) (turn : InTurn o) (busy : IsSome o.course.errand) where
+module _ (o new : Operator) (turn : AtStep o) (busy : IsSome o.course.errand) where
   -- ---- the remap shard's writer
 
   remap_at : (w : Writer) (step : Step) → w.member ≡ o.remap_writer.member →
       ((errand : Errand) → Takes (clients o) (heard o.course) errand o.course.step → Takes (clients o) (heard o.course) errand step) →
-      InTurn (record o { remap_writer = w; course = record o.course { step = step } })
+      AtStep (record o { remap_writer = w; course = record o.course { step = step } })
   remap_at w step same goes = serves_at o turn busy o.course.step refl (λ errand e s.
       serves_on (record (clients o) { remap_member = w.member }) (record o.course { step = step }) errand step e
       (subst (λ (m : Option ℕ). Serves (record (clients o) { remap_member = m }) (heard o.course) errand step) (sym same)
@@ -93,9 +94,9 @@ module _ (o new : Operator) (turn : InTurn o) (busy : IsSome o.course.errand) wh
   remap_leaves from other h = absurd h
 
   remap_after : (w : Writer) (b : Begun) (from : ℕ) → o.course.step ≡ steps.AppendRemap from → w.member ≡ o.remap_writer.member →
-      RemapBegun b (record o { remap_writer = w }) new → InTurn new
-  remap_after w begun.Yes from at same is = subst InTurn (sym is) (remap_at w o.course.step same (λ errand t. t))
-  remap_after w begun.Spent from at same (leaves, is) = subst InTurn (sym is)
+      RemapBegun b (record o { remap_writer = w }) new → AtStep new
+  remap_after w begun.Yes from at same is = subst AtStep (sym is) (remap_at w o.course.step same (λ errand t. t))
+  remap_after w begun.Spent from at same (leaves, is) = subst AtStep (sym is)
       (remap_at new.remap_writer steps.LeaveRemap (close_member w new.remap_writer leaves ∙ same)
       (λ errand t. remap_leaves from errand (subst (λ (x : Step). Takes (clients o) (heard o.course) errand x) at t)))
 
@@ -105,21 +106,21 @@ module _ (o new : Operator) (turn : InTurn o) (busy : IsSome o.course.errand) wh
   remap_unjoined (errands.Mint at seen) t = t
   remap_unjoined other t = absurd t
 
-  pub remap_starts : (step : Step) → o.course.step ≡ step → RemapStarts step o new → InTurn new
-  remap_starts steps.JoinRemap at is = subst InTurn (sym is) (serves_at o turn busy steps.JoinRemap at (λ errand e s.
+  pub remap_starts : (step : Step) → o.course.step ≡ step → RemapStarts step o new → AtStep new
+  remap_starts steps.JoinRemap at is = subst AtStep (sym is) (serves_at o turn busy steps.JoinRemap at (λ errand e s.
       serves_on (record (clients o) { remap_member = None }) o.course errand o.course.step e
       (subst (λ (x : Step). Serves (record (clients o) { remap_member = None }) (heard o.course) errand x) (sym at)
       (record { takes = remap_unjoined errand s.takes; listens = s.listens; few = s.few }))))
   remap_starts (steps.AppendRemap from) at (w, b, begins, then_) = remap_after w b from at
       (append_member (mint_rows o.course.bindings o.course.errand) from o.remap_writer w b begins) then_
-  remap_starts other at k = subst InTurn (sym k.1)
+  remap_starts other at k = subst AtStep (sym k.1)
       (remap_at new.remap_writer o.course.step (close_member o.remap_writer new.remap_writer k.0) (λ errand t. t))
 
   -- ---- the data shard's writer
 
   data_at : (w : Writer) (step : Step) → w.member ≡ o.data_writer.member →
       ((errand : Errand) → Takes (clients o) (heard o.course) errand o.course.step → Takes (clients o) (heard o.course) errand step) →
-      InTurn (record o { data_writer = w; course = record o.course { step = step } })
+      AtStep (record o { data_writer = w; course = record o.course { step = step } })
   data_at w step same goes = serves_at o turn busy o.course.step refl (λ errand e s.
       serves_on (record (clients o) { data_member = w.member }) (record o.course { step = step }) errand step e
       (subst (λ (m : Option ℕ). Serves (record (clients o) { data_member = m }) (heard o.course) errand step) (sym same)
@@ -131,9 +132,9 @@ module _ (o new : Operator) (turn : InTurn o) (busy : IsSome o.course.errand) wh
   data_leaves from other h = absurd h
 
   data_after : (w : Writer) (b : Begun) (from : ℕ) → o.course.step ≡ steps.AppendData from → w.member ≡ o.data_writer.member →
-      DataBegun b (record o { data_writer = w }) new → InTurn new
-  data_after w begun.Yes from at same is = subst InTurn (sym is) (data_at w o.course.step same (λ errand t. t))
-  data_after w begun.Spent from at same (leaves, is) = subst InTurn (sym is)
+      DataBegun b (record o { data_writer = w }) new → AtStep new
+  data_after w begun.Yes from at same is = subst AtStep (sym is) (data_at w o.course.step same (λ errand t. t))
+  data_after w begun.Spent from at same (leaves, is) = subst AtStep (sym is)
       (data_at new.data_writer steps.LeaveData (close_member w new.data_writer leaves ∙ same)
       (λ errand t. data_leaves from errand (subst (λ (x : Step). Takes (clients o) (heard o.course) errand x) at t)))
 
@@ -143,14 +144,14 @@ module _ (o new : Operator) (turn : InTurn o) (busy : IsSome o.course.errand) wh
   data_unjoined (errands.Publish rows) t = t
   data_unjoined other t = absurd t
 
-  pub data_starts : (step : Step) → o.course.step ≡ step → DataStarts step o new → InTurn new
-  data_starts steps.JoinData at is = subst InTurn (sym is) (serves_at o turn busy steps.JoinData at (λ errand e s.
+  pub data_starts : (step : Step) → o.course.step ≡ step → DataStarts step o new → AtStep new
+  data_starts steps.JoinData at is = subst AtStep (sym is) (serves_at o turn busy steps.JoinData at (λ errand e s.
       serves_on (record (clients o) { data_member = None }) o.course errand o.course.step e
       (subst (λ (x : Step). Serves (record (clients o) { data_member = None }) (heard o.course) errand x) (sym at)
       (record { takes = data_unjoined errand s.takes; listens = s.listens; few = s.few }))))
   data_starts (steps.AppendData from) at (w, b, begins, then_) = data_after w b from at
       (append_member (slice_rows o.course.bindings o.course.synced o.course.errand from) from o.data_writer w b begins) then_
-  data_starts other at k = subst InTurn (sym k.1)
+  data_starts other at k = subst AtStep (sym k.1)
       (data_at new.data_writer o.course.step (close_member o.data_writer new.data_writer k.0) (λ errand t. t))
 
   -- ---- the reader
@@ -161,7 +162,7 @@ module _ (o new : Operator) (turn : InTurn o) (busy : IsSome o.course.errand) wh
 
   read_on : (r : Reader) (step : Step) → o.course.step ≡ step →
       ((errand : Errand) → Serves (clients o) (heard o.course) errand step → Serves (with_reader r) (heard o.course) errand step) →
-      InTurn (record o { reader = r })
+      AtStep (record o { reader = r })
   read_on r step at goes = serves_at o turn busy step at (λ errand e s.
       serves_on (with_reader r) o.course errand o.course.step e
       (subst (λ (x : Step). Serves (with_reader r) (heard o.course) errand x) (sym at) (goes errand s)))
@@ -170,7 +171,7 @@ module _ (o new : Operator) (turn : InTurn o) (busy : IsSome o.course.errand) wh
   reads_on : (r : Reader) (step : Step) → IsReadStep step → o.course.step ≡ step →
       (Reads (clients o) (heard o.course) step → Reads (with_reader r) (heard o.course) step) →
       (Reads (clients o) (heard o.course) step → Listens (clients o) (heard o.course) → Listens (with_reader r) (heard o.course)) →
-      InTurn (record o { reader = r })
+      AtStep (record o { reader = r })
   reads_on r step is at still listens = read_on r step at (λ errand s.
       let t = syncs_or_mints (clients o) (heard o.course) errand step is s.takes in
       record {
@@ -198,17 +199,17 @@ module _ (o new : Operator) (turn : InTurn o) (busy : IsSome o.course.errand) wh
   }
   reader_leaves r same stands other s = absurd s.takes
 
-  pub read_starts : (step : Step) → OfReaderStep step → o.course.step ≡ step → ReadStarts step o new → InTurn new
-  read_starts steps.JoinReader here at is = subst InTurn (sym is)
+  pub read_starts : (step : Step) → OfReaderStep step → o.course.step ≡ step → ReadStarts step o new → AtStep new
+  read_starts steps.JoinReader here at is = subst AtStep (sym is)
       (read_on (readers.opened o.remap o.moment o.lease) steps.JoinReader at
       (reader_unjoined (readers.opened o.remap o.moment o.lease) refl refl))
   read_starts steps.Snapshot here at (after, is) = let member : new.reader.member ≡ o.reader.member = ap (λ (r : Reader). r.member) after in
-      subst InTurn (sym is) (reads_on new.reader steps.Snapshot tt at
+      subst AtStep (sym is) (reads_on new.reader steps.Snapshot tt at
       (λ h. ((h.0.0, some_same member h.0.1, h.0.2), h.1))
       (λ h listens on. absurd (let bad : false ≡ true = sym h.1 ∙ on in cc)))
   read_starts steps.Listen here at (after, is) = let member : new.reader.member ≡ o.reader.member = ap (λ (r : Reader). r.member) after in
       let stands : new.reader.listen ≡ Some (after_ o.course.since) = ap (λ (r : Reader). r.listen) after in
-      subst InTurn (sym is) (reads_on new.reader steps.Listen tt at
+      subst AtStep (sym is) (reads_on new.reader steps.Listen tt at
       (λ h. (
         (h.0.0, some_same member h.0.1, h.0.2),
         h.1,
@@ -222,25 +223,25 @@ module _ (o new : Operator) (turn : InTurn o) (busy : IsSome o.course.errand) wh
       told (Some asked) h = h
   read_starts steps.Next here at (after, is) = let member : new.reader.member ≡ o.reader.member = ap (λ (r : Reader). r.member) after in
       let stands : new.reader.listen ≡ o.reader.listen = ap (λ (r : Reader). r.listen) after in
-      subst InTurn (sym is) (reads_on new.reader steps.Next tt at
+      subst AtStep (sym is) (reads_on new.reader steps.Next tt at
       (λ h. ((h.0.0, some_same member h.0.1, h.0.2), h.1))
       (λ h listens on. stands ∙ listens on))
   read_starts steps.LeaveReader here at ((m, m_is, after), is) =
       let member : new.reader.member ≡ o.reader.member = ap (λ (r : Reader). r.member) after in
       let stands : new.reader.listen ≡ o.reader.listen = ap (λ (r : Reader). r.listen) after in
-      subst InTurn (sym is) (serves_at o turn busy steps.LeaveReader at (λ errand e s.
+      subst AtStep (sym is) (serves_at o turn busy steps.LeaveReader at (λ errand e s.
       serves_on (record (with_reader new.reader) { remap_member = None }) o.course errand o.course.step e
       (subst (λ (x : Step). Serves (record (with_reader new.reader) { remap_member = None }) (heard o.course) errand x) (sym at)
       (reader_leaves new.reader member stands errand s))))
   read_starts other here at starts = absurd here
 
-  pub remap_begins : (r : Result Unit AllocError) → OnOk r (RemapStarts o.course.step o new) → OnErr r (new ≡ o) → InTurn new
+  pub remap_begins : (r : Result Unit AllocError) → OnOk r (RemapStarts o.course.step o new) → OnErr r (new ≡ o) → AtStep new
   remap_begins (Ok done) starts same = remap_starts o.course.step refl starts
-  remap_begins (Err e) starts same = subst InTurn (sym same) turn
+  remap_begins (Err e) starts same = subst AtStep (sym same) turn
 
-  pub data_begins : (r : Result Unit AllocError) → OnOk r (DataStarts o.course.step o new) → OnErr r (new ≡ o) → InTurn new
+  pub data_begins : (r : Result Unit AllocError) → OnOk r (DataStarts o.course.step o new) → OnErr r (new ≡ o) → AtStep new
   data_begins (Ok done) starts same = data_starts o.course.step refl starts
-  data_begins (Err e) starts same = subst InTurn (sym same) turn
+  data_begins (Err e) starts same = subst AtStep (sym same) turn
 
 -- ---- the reader's command is then open, and the operator follows
 
@@ -269,7 +270,8 @@ module _ (o new : Operator) where
       (ap (λ (r : Reader). r.asked) after)
   read_opens other here at starts = absurd here
 
-  module _ (goes : (client : ℕ) (front : Option History) → reads.FollowsWhere client front o.reader → reads.FollowsWhere client front new.reader)
+  module _ (goes : (client : ℕ) (front : Option History) → reads.FollowsWhere client front o.reader →
+      reads.FollowsWhere client front new.reader)
       (client : ℕ) (front : Option History) where
     follows_with : (w : Writer) → (Follows client front o → FollowsWhere writes.machine client front w) →
         new ≡ record o { remap_writer = w; reader = new.reader } → Follows client front o → Follows client front new

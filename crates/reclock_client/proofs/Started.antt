@@ -21,7 +21,8 @@ use Rattle.reclock_client.specs.declared.steps.Part.TheVariants as parts
 use Rattle.reclock_client.specs.declared.steps.Step.{Step}
 use Rattle.reclock_client.specs.declared.steps.Step.TheVariants as steps
 use Rattle.reclock_client.specs.Operators.{IsChange, IsSound, OthersRest, Rests, part_of}
-use Rattle.reclock_client.specs.Polling.{BeginsAppend, DataBegun, DataStarts, ReadStarts, RemapBegun, RemapStarts, mint_rows, slice_rows}
+use Rattle.reclock_client.specs.Minting.{mint_rows, slice_rows}
+use Rattle.reclock_client.specs.Polling.{BeginsAppend, DataBegun, DataStarts, ReadStarts, RemapBegun, RemapStarts}
 use Rattle.reclock_client.proofs.Standing.{data_begun, reader_begun, remap_begun}
 
 -- ---- a writer is of the same shard
@@ -105,7 +106,8 @@ data_form : (o new : Operator) (step : Step) → IsSound o → part_of o.course.
     DataStarts step o new → DataForm o new
 data_form o new steps.JoinData s turn is = data_same o new (writers.opened o.data_shard) turn refl is
 data_form o new (steps.AppendData from) s turn (w, b, begins, then_) = data_after o new w b turn
-    (append_shard (slice_rows o.course.bindings o.course.synced o.course.errand from) from o.data_writer w b begins ∙ s.machines.writes_data) then_
+    (append_shard (slice_rows o.course.bindings o.course.synced o.course.errand from) from o.data_writer w b begins ∙
+    s.machines.writes_data) then_
 data_form o new other s turn k = record {
   step = o.course.step;
   turn = turn;
@@ -164,7 +166,8 @@ read_form o new steps.JoinReader s rests is =
 read_form o new steps.Snapshot s rests (starts, is) = read_on o new s rests is
     (read_begins (asks.Snapshot o.course.since) o.reader.listen o.reader new.reader (o.remap_writer.member ≡ None) (λ h. h) starts)
 read_form o new steps.Listen s rests (starts, is) = read_on o new s rests is
-    (read_begins (asks.Listen o.course.since) (Some (after o.course.since)) o.reader new.reader (o.remap_writer.member ≡ None) (λ h. h) starts)
+    (read_begins (asks.Listen o.course.since) (Some (after o.course.since)) o.reader new.reader (o.remap_writer.member ≡ None)
+    (λ h. h) starts)
 read_form o new steps.Next s rests (starts, is) = read_on o new s rests is
     (read_begins asks.Next o.reader.listen o.reader new.reader (o.remap_writer.member ≡ None) (λ h. h) starts)
 read_form o new other s rests (starts, is) =

@@ -26,10 +26,11 @@ use Rattle.reclock_client.specs.declared.steps.Step.TheVariants as steps
 use Rattle.reclock_client.specs.Commands.{after_data_writer, after_join_data, after_join_remap, after_leave_data, after_leave_remap}
 use Rattle.reclock_client.specs.Commands.{after_append_remap, after_poll, after_reader, after_remap_writer, changes_member, published_from}
 use Rattle.reclock_client.specs.Parts.{part_of}
-use Rattle.reclock_client.specs.Turns.{Clients, HasAll, InTurn, Serves, Turn, TurnBy, clients, heard}
+use Rattle.reclock_client.specs.Turns.{Clients, HasAll, AtStep, Serves, Turn, TurnBy, clients, heard}
 use Rattle.reclock_client.proofs.Members.{asked_by, listen_by, member_by, reader_by, reader_now, writer_member}
 use Rattle.reclock_client.proofs.ReadTurning.{join_reader_turn, leave_reader_turn, listen_turn, snapshot_turn, syncs_or_mints}
-use Rattle.reclock_client.proofs.Turning.{append_data_turn, append_remap_turn, broken_turn, join_data_turn, join_remap_turn, leave_data_turn}
+use Rattle.reclock_client.proofs.Turning.{append_data_turn, append_remap_turn, broken_turn, join_data_turn, join_remap_turn}
+use Rattle.reclock_client.proofs.Turning.{leave_data_turn}
 use Rattle.reclock_client.proofs.Turning.{leave_remap_turn, publish_turn, serves_at, serves_on, some_same, stays, waits_on}
 
 -- ---- an answer, at any step
@@ -159,7 +160,8 @@ module _ (k : Clients) (c : Course) (errand : Errand) (e : c.errand ≡ Some err
     read_poll polls.Spent s some is at same = off_read s is at
     read_poll (polls.Damaged damage) s some is at same = off_read s is at
     read_poll (polls.Done answer) s some is at same =
-        subst (λ (x : Option Asked). Turn (record k { reader_member = m; asked = x; listen = l }) (after_reader c c.step answer).0) (sym same)
+        subst (λ (x : Option Asked). Turn (record k { reader_member = m; asked = x; listen = l }) (after_reader c c.step answer).0)
+        (sym same)
         (read_answer m l c.step answer s some is at)
 
 -- ---- an operator
@@ -178,42 +180,47 @@ look_step steps.Listen at = absurd (let bad : parts.Reader ≡ parts.Looker = at
 look_step steps.Next at = absurd (let bad : parts.Reader ≡ parts.Looker = at in cc)
 look_step steps.LeaveReader at = absurd (let bad : parts.Reader ≡ parts.Looker = at in cc)
 
-module _ (client : ℕ) (front now : Option History) (o : Operator) (turn : InTurn o) (busy : IsSome o.course.errand) where
-  served : {P : Type 0} → ((errand : Errand) → o.course.errand ≡ Some errand → Serves (clients o) (heard o.course) errand o.course.step → P) → P
+module _ (client : ℕ) (front now : Option History) (o : Operator) (turn : AtStep o) (busy : IsSome o.course.errand) where
+  served : {P : Type 0} → ((errand : Errand) → o.course.errand ≡ Some errand →
+      Serves (clients o) (heard o.course) errand o.course.step → P) → P
   served f = serves_at o turn busy o.course.step refl f
 
   pub remap_turned : (w : Writer) (p : Poll WriteAnswer) (c : Course) (n : ℕ) → Polled writes.machine client front now o.remap_writer w p →
-      c ≡ (after_poll (after_remap_writer o.course o.course.step) o.course p).0 → InTurn (record o { remap_writer = w; course = c; calls = n })
-  remap_turned w p c n polled is = subst (λ (x : Course). InTurn (record o { remap_writer = w; course = x; calls = n })) (sym is)
-      (served (λ errand e s. remap_poll (clients o) o.course errand e w.member p s (writer_member client front now o.remap_writer w p polled)))
+      c ≡ (after_poll (after_remap_writer o.course o.course.step) o.course p).0 →
+      AtStep (record o { remap_writer = w; course = c; calls = n })
+  remap_turned w p c n polled is = subst (λ (x : Course). AtStep (record o { remap_writer = w; course = x; calls = n })) (sym is)
+      (served (λ errand e s. remap_poll (clients o) o.course errand e w.member p s
+      (writer_member client front now o.remap_writer w p polled)))
 
   pub data_turned : (w : Writer) (p : Poll WriteAnswer) (c : Course) (n : ℕ) → Polled writes.machine client front now o.data_writer w p →
-      c ≡ (after_poll (after_data_writer o.course o.course.step) o.course p).0 → InTurn (record o { data_writer = w; course = c; calls = n })
-  data_turned w p c n polled is = subst (λ (x : Course). InTurn (record o { data_writer = w; course = x; calls = n })) (sym is)
-      (served (λ errand e s. data_poll (clients o) o.course errand e w.member p s (writer_member client front now o.data_writer w p polled)))
+      c ≡ (after_poll (after_data_writer o.course o.course.step) o.course p).0 →
+      AtStep (record o { data_writer = w; course = c; calls = n })
+  data_turned w p c n polled is = subst (λ (x : Course). AtStep (record o { data_writer = w; course = x; calls = n })) (sym is)
+      (served (λ errand e s. data_poll (clients o) o.course errand e w.member p s
+      (writer_member client front now o.data_writer w p polled)))
 
   pub read_turned : (r : Reader) (p : Poll ReadAnswer) (c : Course) (n : ℕ) → IsSome o.reader.asked →
       Polled reads.machine client front now o.reader r p → c ≡ (after_poll (after_reader o.course o.course.step) o.course p).0 →
-      InTurn (record o { reader = r; course = c; calls = n })
-  read_turned r p c n some polled is = subst (λ (x : Course). InTurn (record o { reader = r; course = x; calls = n })) (sym is)
+      AtStep (record o { reader = r; course = c; calls = n })
+  read_turned r p c n some polled is = subst (λ (x : Course). AtStep (record o { reader = r; course = x; calls = n })) (sym is)
       (served (λ errand e s. let k = reader_now client front now o.reader r p polled in
       read_poll (clients o) o.course errand e r.member r.asked r.listen p s some k.member k.listen k.asked))
 
   pub look_turned : (l : Tryer Look) (p : Poll (Option ℕ)) (c : Course) (n : ℕ) → part_of o.course.step ≡ parts.Looker →
-      c ≡ (after_poll (published_from o.course) o.course p).0 → InTurn (record o { looker = l; course = c; calls = n })
-  look_turned l p c n at is = subst (λ (x : Course). InTurn (record o { looker = l; course = x; calls = n })) (sym is)
+      c ≡ (after_poll (published_from o.course) o.course p).0 → AtStep (record o { looker = l; course = c; calls = n })
+  look_turned l p c n at is = subst (λ (x : Course). AtStep (record o { looker = l; course = x; calls = n })) (sym is)
       (served (λ errand e s. look_poll (clients o) o.course errand e p (look_step o.course.step at) s))
 
   -- want of memory leaves the command as it was
-  pub remap_still : (w : Writer) → Unpolled writes.machine client front now o.remap_writer w → InTurn (record o { remap_writer = w })
+  pub remap_still : (w : Writer) → Unpolled writes.machine client front now o.remap_writer w → AtStep (record o { remap_writer = w })
   remap_still w u = served (λ errand e s. on_remap (clients o) o.course errand e w.member s (ap (λ (k : writes.Kept). k.member) u.same))
 
-  pub data_still : (w : Writer) → Unpolled writes.machine client front now o.data_writer w → InTurn (record o { data_writer = w })
+  pub data_still : (w : Writer) → Unpolled writes.machine client front now o.data_writer w → AtStep (record o { data_writer = w })
   data_still w u = served (λ errand e s. on_data (clients o) o.course errand e w.member s (ap (λ (k : writes.Kept). k.member) u.same))
 
-  pub read_still : (r : Reader) → Unpolled reads.machine client front now o.reader r → InTurn (record o { reader = r })
+  pub read_still : (r : Reader) → Unpolled reads.machine client front now o.reader r → AtStep (record o { reader = r })
   read_still r u = served (λ errand e s. on_read (clients o) o.course errand e r.member r.asked r.listen s
       (ap (λ (k : reads.Kept). k.member) u.same) (ap (λ (k : reads.Kept). k.listen) u.same) (ap (λ (k : reads.Kept). k.asked) u.same))
 
-  pub look_still : (l : Tryer Look) → InTurn (record o { looker = l })
+  pub look_still : (l : Tryer Look) → AtStep (record o { looker = l })
   look_still l = turn

@@ -15,7 +15,7 @@ use Rattle.reclock_client.specs.declared.steps.Step.{Step}
 use Rattle.reclock_client.specs.declared.steps.Step.TheVariants as steps
 use Rattle.reclock_client.specs.Commands.{after_append_data, after_append_remap, after_join_data, after_join_remap, after_leave_data}
 use Rattle.reclock_client.specs.Commands.{after_leave_remap, changes_member, ends, goes, published_from, reading_step}
-use Rattle.reclock_client.specs.Turns.{Clients, HasAll, Heard, InTurn, Listens, Serves, Takes, Turn, TurnBy, Waits}
+use Rattle.reclock_client.specs.Turns.{Clients, HasAll, Heard, AtStep, Listens, Serves, Takes, Turn, TurnBy, Waits}
 use Rattle.reclock_client.specs.Turns.{clients, heard}
 
 -- ---- a command goes on, or ends
@@ -24,8 +24,9 @@ pub some_same : {m n : Option ℕ} → m ≡ n → IsSome n → IsSome m
 some_same e some = subst (λ (x : Option ℕ). IsSome x) (sym e) some
 
 -- an open command is served
-module _ (o : Operator) (turn : InTurn o) (busy : IsSome o.course.errand) (step : Step) (at : o.course.step ≡ step) where
-  pub serves_at : {P : Type 0} → ((errand : Errand) → o.course.errand ≡ Some errand → Serves (clients o) (heard o.course) errand step → P) → P
+module _ (o : Operator) (turn : AtStep o) (busy : IsSome o.course.errand) (step : Step) (at : o.course.step ≡ step) where
+  pub serves_at : {P : Type 0} → ((errand : Errand) → o.course.errand ≡ Some errand →
+      Serves (clients o) (heard o.course) errand step → P) → P
   serves_at {P} f = by o.course.errand refl busy turn
     where
       by : (x : Option Errand) → o.course.errand ≡ x → IsSome x → TurnBy (clients o) (heard o.course) x o.course.step o.course.joined → P
@@ -206,9 +207,10 @@ module _ (k : Clients) (c : Course) (m : Option ℕ) where
   pub leave_data_turn : (errand : Errand) (answer : WriteAnswer) → c.errand ≡ Some errand → Serves k (heard c) errand steps.LeaveData →
       Turn now_data (after_leave_data c (Some errand) answer).0
   leave_data_turn errands.Close (writes.Closed version) e s = tt
-  leave_data_turn (errands.Publish rows) (writes.Closed version) e s = serves_on now_data c (errands.Publish rows) steps.JoinData e (record {
-    takes = (s.takes.0, s.takes.1);
-    listens = s.listens;
-    few = s.few;
-  })
+  leave_data_turn (errands.Publish rows) (writes.Closed version) e s = serves_on now_data c (errands.Publish rows) steps.JoinData e
+      (record {
+        takes = (s.takes.0, s.takes.1);
+        listens = s.listens;
+        few = s.few;
+      })
   leave_data_turn errand other e s = tt

@@ -9,3 +9,5 @@ pub mod Turns
 pub mod Operators
 pub mod Polling
 pub mod Known
+pub mod Asking
+pub mod Proposals

@@ -3,7 +3,6 @@ use Rattle.std.specs.Prelude.{◌≡◌, ◌⊎◌, ℕ, ◌+◌, min, Option, S
 use Rattle.std.specs.declared.alloc.AllocError.{AllocError}
 use Rattle.update_core.specs.declared.updates.Update.{Update}
 use Rattle.update_core.specs.Frontiers.{after}
-use Rattle.update_core.specs.Updates.{slice_of}
 use Rattle.store_core.specs.Histories.{History}
 use Rattle.state_core.specs.declared.transitions.Transition.TheVariants.{Init, Leave}
 use Rattle.state_core.specs.VersionReading.{most}
@@ -16,8 +15,7 @@ use Rattle.load_core.specs.Trying as trying
 use Rattle.machine_core.specs.Machines.{Words}
 use Rattle.machine_core.specs.Polling as machines
 use Rattle.machine_core.specs.Polling.{CostGoesOn, LegalWhere}
-use Rattle.remap_core.specs.Extending.{reached, with_rows}
-use Rattle.remap_core.specs.Reclocking.{reclocked}
+use Rattle.remap_core.specs.Extending.{with_rows}
 use Rattle.read_client.specs.Beginning.{BeginsRead, Changing}
 use Rattle.read_client.specs.Machining as reads
 use Rattle.read_client.specs.Reading as readers
@@ -27,8 +25,6 @@ use Rattle.write_client.specs.Machining as writes
 use Rattle.write_client.specs.Writing as writers
 use Rattle.reclock_client.specs.declared.clock_answers.ClockAnswer.{ClockAnswer}
 use Rattle.reclock_client.specs.declared.courses.Course.{Course}
-use Rattle.reclock_client.specs.declared.errands.Errand.{Errand}
-use Rattle.reclock_client.specs.declared.errands.Errand.TheVariants as errands
 use Rattle.reclock_client.specs.declared.intakes.Intake.TheVariants as intakes
 use Rattle.reclock_client.specs.declared.operators.Operator.{Operator}
 use Rattle.reclock_client.specs.declared.starting.Begun.{Begun}
@@ -37,9 +33,10 @@ use Rattle.reclock_client.specs.declared.steps.Part.{Part}
 use Rattle.reclock_client.specs.declared.steps.Part.TheVariants as parts
 use Rattle.reclock_client.specs.declared.steps.Step.{Step}
 use Rattle.reclock_client.specs.declared.steps.Step.TheVariants as steps
+use Rattle.reclock_client.specs.Asking.{InTurn}
 use Rattle.reclock_client.specs.Commands.{Next, after_data_writer, after_poll, after_reader, after_remap_writer, published_from}
 use Rattle.reclock_client.specs.Looking as looks
-use Rattle.reclock_client.specs.Minting.{rises}
+use Rattle.reclock_client.specs.Minting.{mint_rows, slice_rows}
 use Rattle.reclock_client.specs.Parts.{part_of}
 use Rattle.reclock_client.specs.Reading.{Binds, left}
 use Rattle.reclock_client.specs.Starting.{StartsAppend}
@@ -54,16 +51,6 @@ bound c = record c { bindings = with_rows c.bindings (left c.since c.intake); in
 pub record Halts (old new : Course) : Type 0 where
   pub same : new ≡ record old { bindings = new.bindings; intake = new.intake }
   pub binds : Binds old.since old.bindings (left old.since old.intake) new.bindings new.intake
-
--- the rows of a mint, under these bindings, and the frontier up to which they are
-abbrev pub mint_rows : List (ℕ × List ℕ) → Option Errand → Option (List Update × Option ℕ)
-mint_rows bs (Some (errands.Mint t seen)) = Some (rises t (reached bs) seen, after t)
-mint_rows bs other = None
-
--- the same of a publish, from an upper on and up to the synced frontier
-abbrev pub slice_rows : List (ℕ × List ℕ) → Option ℕ → Option Errand → ℕ → Option (List Update × Option ℕ)
-slice_rows bs synced (Some (errands.Publish rows)) from = Some (slice_of (reclocked rows bs 0) (Some from) synced, synced)
-slice_rows bs synced other from = None
 
 -- a writer begins to append these rows up to this frontier
 abbrev pub BeginsAppend : Option (List Update × Option ℕ) → ℕ → Writer → Writer → Result Begun AllocError → Type 0
@@ -80,7 +67,8 @@ RemapBegun begun.Spent mid new = Closing mid.remap_writer new.remap_writer ×
 abbrev pub RemapStarts : Step → Operator → Operator → Type 0
 RemapStarts steps.JoinRemap old new = new ≡ record old { remap_writer = writers.opened old.remap }
 RemapStarts (steps.AppendRemap from) old new = (w : Writer) × (b : Begun) ×
-    BeginsAppend (mint_rows old.course.bindings old.course.errand) from old.remap_writer w (Ok b) × RemapBegun b (record old { remap_writer = w }) new
+    BeginsAppend (mint_rows old.course.bindings old.course.errand) from old.remap_writer w (Ok b) × RemapBegun b
+    (record old { remap_writer = w }) new
 RemapStarts other old new = Closing old.remap_writer new.remap_writer × (new ≡ record old { remap_writer = new.remap_writer })
 
 -- the same of the data shard's writer
@@ -92,7 +80,8 @@ DataBegun begun.Spent mid new = Closing mid.data_writer new.data_writer ×
 abbrev pub DataStarts : Step → Operator → Operator → Type 0
 DataStarts steps.JoinData old new = new ≡ record old { data_writer = writers.opened old.data_shard }
 DataStarts (steps.AppendData from) old new = (w : Writer) × (b : Begun) ×
-    BeginsAppend (slice_rows old.course.bindings old.course.synced old.course.errand from) from old.data_writer w (Ok b) × DataBegun b (record old { data_writer = w }) new
+    BeginsAppend (slice_rows old.course.bindings old.course.synced old.course.errand from) from old.data_writer w (Ok b) × DataBegun b
+    (record old { data_writer = w }) new
 DataStarts other old new = Closing old.data_writer new.data_writer × (new ≡ record old { data_writer = new.data_writer })
 
 -- a step of the reader
@@ -101,7 +90,8 @@ ReadStarts steps.JoinReader old new = new ≡ record old { reader = readers.open
 ReadStarts steps.Snapshot old new =
     BeginsRead old.reader (asks.Snapshot old.course.since) old.reader.listen new.reader × (new ≡ record old { reader = new.reader })
 ReadStarts steps.Listen old new =
-    BeginsRead old.reader (asks.Listen old.course.since) (Some (after old.course.since)) new.reader × (new ≡ record old { reader = new.reader })
+    BeginsRead old.reader (asks.Listen old.course.since) (Some (after old.course.since)) new.reader ×
+    (new ≡ record old { reader = new.reader })
 ReadStarts steps.Next old new = BeginsRead old.reader asks.Next old.reader.listen new.reader × (new ≡ record old { reader = new.reader })
 -- the remap shard's writer has left: a new one, which isn't polled, takes its place
 ReadStarts other old new = Changing old.reader asks.CloseReader (λ member. Leave member) new.reader ×
@@ -166,6 +156,7 @@ PolledBy parts.Looker client front front_now old new poll =
 pub record Polled (client : ℕ) (front front_now : Option History) (old new : Operator) (poll : Poll ClockAnswer) : Type 0 where
   pub ready : Operator
   pub readies : Readies old ready
+  pub turn : InTurn ready
   pub polled : PolledBy (part_of ready.course.step) client front front_now ready new poll
 
 -- ---- want of memory

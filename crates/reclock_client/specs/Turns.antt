@@ -1,4 +1,4 @@
--- An operator's turn: which steps its open command may have, and who has a member there. So each inner command can be begun.
+-- Which steps an operator's open command may have, and who has a member there: so each inner command can be begun.
 use Rattle.std.specs.Prelude.{⊤, ◌≡◌, ℕ, ◌≤◌, Bool, true, false, Option, Some, None, IfSome, IsSome, length}
 use Rattle.update_core.specs.Frontiers.{after, covers}
 use Rattle.history_core.specs.declared.asked.Asked.{Asked}
@@ -71,7 +71,7 @@ Takes k h errands.Close steps.LeaveReader = IsSome k.reader_member × IsSome k.d
 Takes k h errands.Close steps.LeaveData = IsSome k.data_member
 Takes k h errands.Close other = ⊥
 
--- ---- the turn
+-- ---- at a step
 
 -- where a listen goes on, it stands at the synced frontier
 abbrev pub Listens : Clients → Heard → Type 0
@@ -101,6 +101,6 @@ TurnBy k h None step false = ⊤
 abbrev pub Turn : Clients → Course → Type 0
 Turn k c = TurnBy k (heard c) c.errand c.step c.joined
 
--- an operator is in turn
-abbrev pub InTurn : Operator → Type 0
-InTurn o = Turn (clients o) o.course
+-- an operator is at a step of its command, or waits for one
+abbrev pub AtStep : Operator → Type 0
+AtStep o = Turn (clients o) o.course

@@ -2,10 +2,11 @@
 ghost use Rattle.std.specs.Prelude.{◌≡◌, ◌≢◌, ◌≤◌, ◌^◌, ℕ, None, Some, Option, IfNone, IfOk, if◌then◌else◌, is_some, length};
 ghost use Rattle.store_core.specs.Histories.{History};
 ghost use Rattle.remap_core.specs.Reclocking.{reclocked, weight_of_rows};
+ghost use Rattle.reclock_client.specs.Asking.{InTurn};
 ghost use Rattle.reclock_client.specs.Beginning.{Begins, begun, begun_sync, fault, publish_fault};
 ghost use Rattle.reclock_client.specs.Operators as operators;
 ghost use Rattle.reclock_client.specs.Operators.{Follows, IsLight, IsSound, calls_of};
-ghost use Rattle.reclock_client.specs.Turns.{HasAll, InTurn, IsFew, Takes, clients, heard};
+ghost use Rattle.reclock_client.specs.Turns.{HasAll, IsFew, Takes, clients, heard};
 
 use crate::courses::Course;
 use crate::errands::Errand;

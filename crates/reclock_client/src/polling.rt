@@ -2,11 +2,11 @@
 ghost use Rattle.std.specs.Prelude.{◌≡◌, ◌<◌, ◌≤◌, Ok, IfOk, IsSome, OnErr};
 ghost use Rattle.causes.specs.Causes.{Rose};
 ghost use Rattle.load_core.specs.declared.polls.Poll.TheVariants as polls;
+ghost use Rattle.reclock_client.specs.Asking.{InTurn};
 ghost use Rattle.reclock_client.specs.Operators.{Follows, IsOpen, IsSound};
 ghost use Rattle.reclock_client.specs.Parts.{part_of};
 ghost use Rattle.reclock_client.specs.Polling as polling;
 ghost use Rattle.reclock_client.specs.Polling.{Polled, Unpolled};
-ghost use Rattle.reclock_client.specs.Turns.{InTurn};
 
 use crate::clock_answers::ClockAnswer;
 use crate::intakes::Intake;

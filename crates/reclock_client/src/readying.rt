@@ -6,12 +6,15 @@ ghost use Rattle.write_client.specs.Following as writes;
 ghost use Rattle.write_client.specs.Writing as writers;
 ghost use Rattle.read_client.specs.Following as reads;
 ghost use Rattle.read_client.specs.Reading as readers;
+ghost use Rattle.reclock_client.specs.Asking.{InTurn};
+ghost use Rattle.reclock_client.specs.Minting as minting;
 ghost use Rattle.reclock_client.specs.Operators.{Follows, IsOpen, IsSound};
 ghost use Rattle.reclock_client.specs.Parts.{part_of};
 ghost use Rattle.reclock_client.specs.Polling as polling;
-ghost use Rattle.reclock_client.specs.Turns.{InTurn};
+ghost use Rattle.reclock_client.specs.Turns.{AtStep};
 
 use crate::errands::Errand;
+use crate::intakes::Intake;
 use crate::looks::Look;
 use crate::mints::mint_rows;
 use crate::operators::Operator;
@@ -30,11 +33,11 @@ impl Operator {
     // What a mint appends from an upper on is begun, where a token is left.
     fn begin_rises(&mut self, alloc: Global, from: u64) -> Result<Begun, AllocError>
         requires sound { IsSound self.old }
-        requires turn { InTurn self.old }
+        requires turn { AtStep self.old }
         requires busy { IsSome self.old.course.errand }
         requires step { self.old.course.step ≡ Step.AppendRemap from }
         requires idle { self.old.remap_writer.asked ≡ None }
-        ensures begins { polling.BeginsAppend (polling.mint_rows self.old.course.bindings self.old.course.errand) from
+        ensures begins { polling.BeginsAppend (minting.mint_rows self.old.course.bindings self.old.course.errand) from
             self.old.remap_writer self.new.remap_writer result }
         ensures rest { self.new ≡ record self.old { remap_writer = self.new.remap_writer } }
         ensures spent { result ≡ Ok Begun.Spent → self.new ≡ self.old }
@@ -62,11 +65,11 @@ impl Operator {
     // What a publish appends from an upper on is begun, where a token is left.
     fn begin_slice(&mut self, alloc: Global, from: u64) -> Result<Begun, AllocError>
         requires sound { IsSound self.old }
-        requires turn { InTurn self.old }
+        requires turn { AtStep self.old }
         requires busy { IsSome self.old.course.errand }
         requires step { self.old.course.step ≡ Step.AppendData from }
         requires idle { self.old.data_writer.asked ≡ None }
-        ensures begins { polling.BeginsAppend (polling.slice_rows self.old.course.bindings self.old.course.synced self.old.course.errand from)
+        ensures begins { polling.BeginsAppend (minting.slice_rows self.old.course.bindings self.old.course.synced self.old.course.errand from)
             from self.old.data_writer self.new.data_writer result }
         ensures rest { self.new ≡ record self.old { data_writer = self.new.data_writer } }
         ensures spent { result ≡ Ok Begun.Spent → self.new ≡ self.old }
@@ -128,7 +131,7 @@ impl Operator {
     // A command of the remap shard's writer begins. It fails only for want of memory.
     fn start_remap_writer(&mut self, alloc: Global) -> Result<(), AllocError>
         requires sound { IsSound self.old }
-        requires turn { InTurn self.old }
+        requires turn { AtStep self.old }
         requires busy { IsSome self.old.course.errand }
         requires part { part_of self.old.course.step ≡ Part.RemapWriter }
         requires idle { self.old.remap_writer.asked ≡ None }
@@ -154,7 +157,7 @@ impl Operator {
     // A command of the data shard's writer begins. It fails only for want of memory.
     fn start_data_writer(&mut self, alloc: Global) -> Result<(), AllocError>
         requires sound { IsSound self.old }
-        requires turn { InTurn self.old }
+        requires turn { AtStep self.old }
         requires busy { IsSome self.old.course.errand }
         requires part { part_of self.old.course.step ≡ Part.DataWriter }
         requires idle { self.old.data_writer.asked ≡ None }
@@ -180,7 +183,7 @@ impl Operator {
     // A command of the reader begins.
     fn start_reader(&mut self, alloc: Global)
         requires sound { IsSound self.old }
-        requires turn { InTurn self.old }
+        requires turn { AtStep self.old }
         requires busy { IsSome self.old.course.errand }
         requires part { part_of self.old.course.step ≡ Part.Reader }
         requires idle { self.old.reader.asked ≡ None }
@@ -212,6 +215,7 @@ impl Operator {
         requires sound { IsSound self.old }
         requires turn { InTurn self.old }
         requires busy { IsSome self.old.course.errand }
+        requires taken { self.old.course.intake ≡ Intake.Nothing }
         ensures starts { OnOk result (polling.Starts (part_of self.old.course.step) self.old self.new) }
         ensures memory { OnErr result (self.new ≡ self.old) }
         ensures open { OnOk result (IsOpen self.new (part_of self.new.course.step)) }

@@ -1,6 +1,6 @@
 // Operators that reclock one source.
 ghost use Rattle.reclock_client.specs.Operators.{IsSound};
-ghost use Rattle.reclock_client.specs.Turns.{InTurn};
+ghost use Rattle.reclock_client.specs.Asking.{InTurn};
 
 use crate::answers::Word;
 use crate::knowledge::{are_three, knows};

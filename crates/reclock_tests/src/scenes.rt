@@ -1,7 +1,7 @@
 // Operators at one store, each of whose commands is polled to its end.
 ghost use Rattle.std.specs.Prelude.{IfOk};
 ghost use Rattle.reclock_client.specs.Operators.{IsSound};
-ghost use Rattle.reclock_client.specs.Turns.{InTurn};
+ghost use Rattle.reclock_client.specs.Asking.{InTurn};
 
 use crate::answers::{Word, poll_word};
 use reclock_client::Operator;

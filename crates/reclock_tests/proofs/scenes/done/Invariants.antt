@@ -1,5 +1,5 @@
 use Rattle.reclock_client.specs.Operators.{IsSound}
-use Rattle.reclock_client.specs.Turns.{InTurn}
+use Rattle.reclock_client.specs.Asking.{InTurn}
 use Rattle.reclock_tests.proofs.scenes.done.Given as goal
 
 abbrev pub invariant-loop : goal.invariant-loop

@@ -4,28 +4,27 @@ use Rattle.reclock_client.proofs.Polled.{data_came, data_left, of_busy, of_fault
 use Rattle.std.specs.Prelude.{Ok}
 use Rattle.history_core.specs.declared.write_answers.WriteAnswer.{WriteAnswer}
 use Rattle.load_core.specs.declared.polls.Poll.TheVariants as polls
-use Rattle.reclock_client.specs.Commands.{Next, after_data_writer}
-use Rattle.reclock_client.proofs.Turned.{data_turned, data_still}
+use Rattle.reclock_client.specs.Commands.{after_data_writer}
 use Rattle.reclock_client.proofs.operators.Operator.poll_data_writer.Goals as goal
 
 pub returns-in_err-poll-clause-memory : goal.returns-in_err-poll-clause-memory
 returns-in_err-poll-clause-memory g c = on_err _ c.from_residual.result _ (data_left (g.P.Port.client c.args.port.now) (g.P.Port.front c.args.port.now) (g.P.Port.front c.poll.new.port) c.args.self.now
-    c.requires.sound c.requires.busy c.requires.taken c.requires.follows c.poll.new.self c.requires.part c.requires.open c.in_err-poll.ensures.memory
+    c.requires.sound c.requires.busy c.requires.taken c.requires.follows c.requires.turn c.poll.new.self c.requires.part c.requires.open c.in_err-poll.ensures.memory
     c.in_err-poll.ensures.follows c.in_err-poll.ensures.sound).memory
 
 pub returns-in_err-poll-clause-sound : goal.returns-in_err-poll-clause-sound
 returns-in_err-poll-clause-sound g c = (data_left (g.P.Port.client c.args.port.now) (g.P.Port.front c.args.port.now) (g.P.Port.front c.poll.new.port) c.args.self.now
-    c.requires.sound c.requires.busy c.requires.taken c.requires.follows c.poll.new.self c.requires.part c.requires.open c.in_err-poll.ensures.memory
+    c.requires.sound c.requires.busy c.requires.taken c.requires.follows c.requires.turn c.poll.new.self c.requires.part c.requires.open c.in_err-poll.ensures.memory
     c.in_err-poll.ensures.follows c.in_err-poll.ensures.sound).sound
 
 pub returns-in_err-poll-clause-follows : goal.returns-in_err-poll-clause-follows
 returns-in_err-poll-clause-follows g c = (data_left (g.P.Port.client c.args.port.now) (g.P.Port.front c.args.port.now) (g.P.Port.front c.poll.new.port) c.args.self.now
-    c.requires.sound c.requires.busy c.requires.taken c.requires.follows c.poll.new.self c.requires.part c.requires.open c.in_err-poll.ensures.memory
+    c.requires.sound c.requires.busy c.requires.taken c.requires.follows c.requires.turn c.poll.new.self c.requires.part c.requires.open c.in_err-poll.ensures.memory
     c.in_err-poll.ensures.follows c.in_err-poll.ensures.sound).follows
 
 pub returns-clause-polled : goal.returns-clause-polled
 returns-clause-polled g c = (data_came (g.P.Port.client c.args.port.now) (g.P.Port.front c.args.port.now) (g.P.Port.front c.poll.new.port) c.args.self.now
-    c.requires.sound c.requires.busy c.requires.taken c.requires.follows c.poll.new.self c.in_ok-poll.poll c.after_data_poll.new.self c.counted-self.result
+    c.requires.sound c.requires.busy c.requires.taken c.requires.follows c.requires.turn c.poll.new.self c.in_ok-poll.poll c.after_data_poll.new.self c.counted-self.result
     c.after_data_poll.result c.requires.part c.requires.open
     (record { polled = c.in_ok-poll.ensures.polled; legal = c.in_ok-poll.ensures.legal; cost = c.in_ok-poll.ensures.cost })
     c.in_ok-poll.ensures.follows c.in_ok-poll.ensures.sound (c.counted-self.ensures ∙ ap (λ (k : ℕ). counted c.in_ok-poll.poll c.args.self.now.calls k) c.calls.ensures)
@@ -33,7 +32,7 @@ returns-clause-polled g c = (data_came (g.P.Port.client c.args.port.now) (g.P.Po
 
 pub returns-clause-sound : goal.returns-clause-sound
 returns-clause-sound g c = (data_came (g.P.Port.client c.args.port.now) (g.P.Port.front c.args.port.now) (g.P.Port.front c.poll.new.port) c.args.self.now
-    c.requires.sound c.requires.busy c.requires.taken c.requires.follows c.poll.new.self c.in_ok-poll.poll c.after_data_poll.new.self c.counted-self.result
+    c.requires.sound c.requires.busy c.requires.taken c.requires.follows c.requires.turn c.poll.new.self c.in_ok-poll.poll c.after_data_poll.new.self c.counted-self.result
     c.after_data_poll.result c.requires.part c.requires.open
     (record { polled = c.in_ok-poll.ensures.polled; legal = c.in_ok-poll.ensures.legal; cost = c.in_ok-poll.ensures.cost })
     c.in_ok-poll.ensures.follows c.in_ok-poll.ensures.sound (c.counted-self.ensures ∙ ap (λ (k : ℕ). counted c.in_ok-poll.poll c.args.self.now.calls k) c.calls.ensures)
@@ -41,7 +40,7 @@ returns-clause-sound g c = (data_came (g.P.Port.client c.args.port.now) (g.P.Por
 
 pub returns-clause-follows : goal.returns-clause-follows
 returns-clause-follows g c = (data_came (g.P.Port.client c.args.port.now) (g.P.Port.front c.args.port.now) (g.P.Port.front c.poll.new.port) c.args.self.now
-    c.requires.sound c.requires.busy c.requires.taken c.requires.follows c.poll.new.self c.in_ok-poll.poll c.after_data_poll.new.self c.counted-self.result
+    c.requires.sound c.requires.busy c.requires.taken c.requires.follows c.requires.turn c.poll.new.self c.in_ok-poll.poll c.after_data_poll.new.self c.counted-self.result
     c.after_data_poll.result c.requires.part c.requires.open
     (record { polled = c.in_ok-poll.ensures.polled; legal = c.in_ok-poll.ensures.legal; cost = c.in_ok-poll.ensures.cost })
     c.in_ok-poll.ensures.follows c.in_ok-poll.ensures.sound (c.counted-self.ensures ∙ ap (λ (k : ℕ). counted c.in_ok-poll.poll c.args.self.now.calls k) c.calls.ensures)
@@ -58,10 +57,14 @@ returns-clause-fault g c = λ h. c.in_ok-poll.ensures.fault (ap Ok (of_fault Wri
     c.after_data_poll.ensures.forth (let same : c.after_data_poll.result ≡ polls.Fault = cc in same)))
 
 pub returns-in_err-poll-clause-turn : goal.returns-in_err-poll-clause-turn
-returns-in_err-poll-clause-turn g c = data_still (g.P.Port.client c.args.port.now) (g.P.Port.front c.args.port.now) (g.P.Port.front c.poll.new.port) c.args.self.now c.requires.turn c.requires.busy
-    c.poll.new.self c.in_err-poll.ensures.memory
+returns-in_err-poll-clause-turn g c = (data_left (g.P.Port.client c.args.port.now) (g.P.Port.front c.args.port.now) (g.P.Port.front c.poll.new.port) c.args.self.now
+    c.requires.sound c.requires.busy c.requires.taken c.requires.follows c.requires.turn c.poll.new.self c.requires.part c.requires.open c.in_err-poll.ensures.memory
+    c.in_err-poll.ensures.follows c.in_err-poll.ensures.sound).turn
 
 pub returns-clause-turn : goal.returns-clause-turn
-returns-clause-turn g c = data_turned (g.P.Port.client c.args.port.now) (g.P.Port.front c.args.port.now) (g.P.Port.front c.poll.new.port) c.args.self.now c.requires.turn c.requires.busy
-    c.poll.new.self c.in_ok-poll.poll c.after_data_poll.new.self c.counted-self.result c.in_ok-poll.ensures.polled
-    (ap (λ (n : Next). n.0) c.after_data_poll.ensures.next)
+returns-clause-turn g c = (data_came (g.P.Port.client c.args.port.now) (g.P.Port.front c.args.port.now) (g.P.Port.front c.poll.new.port) c.args.self.now
+    c.requires.sound c.requires.busy c.requires.taken c.requires.follows c.requires.turn c.poll.new.self c.in_ok-poll.poll c.after_data_poll.new.self c.counted-self.result
+    c.after_data_poll.result c.requires.part c.requires.open
+    (record { polled = c.in_ok-poll.ensures.polled; legal = c.in_ok-poll.ensures.legal; cost = c.in_ok-poll.ensures.cost })
+    c.in_ok-poll.ensures.follows c.in_ok-poll.ensures.sound (c.counted-self.ensures ∙ ap (λ (k : ℕ). counted c.in_ok-poll.poll c.args.self.now.calls k) c.calls.ensures)
+    c.after_data_poll.ensures.next c.after_data_poll.ensures.course).turn

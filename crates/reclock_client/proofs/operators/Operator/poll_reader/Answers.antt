@@ -1,32 +1,30 @@
-use Rattle.std.proofs.Common.{◌≡◌, ℕ, ap, subst, ◌∙◌}
+use Rattle.std.proofs.Common.{◌≡◌, ℕ, ap, ◌∙◌}
 use Rattle.reclock_client.specs.Polling.{counted}
 use Rattle.reclock_client.proofs.Polled.{read_came, read_left, of_busy, of_fault, on_err}
 use Rattle.std.specs.Prelude.{Ok}
 use Rattle.history_core.specs.declared.read_answers.ReadAnswer.{ReadAnswer}
 use Rattle.load_core.specs.declared.polls.Poll.TheVariants as polls
-use Rattle.reclock_client.specs.Commands.{Next, after_reader}
-use Rattle.reclock_client.specs.Operators.{IsOpen}
-use Rattle.reclock_client.proofs.Turned.{read_turned, read_still}
+use Rattle.reclock_client.specs.Commands.{after_reader}
 use Rattle.reclock_client.proofs.operators.Operator.poll_reader.Goals as goal
 
 pub returns-in_err-poll-clause-memory : goal.returns-in_err-poll-clause-memory
 returns-in_err-poll-clause-memory g c = on_err _ c.from_residual.result _ (read_left (g.P.Port.client c.args.port.now) (g.P.Port.front c.args.port.now) (g.P.Port.front c.poll.new.port) c.args.self.now
-    c.requires.sound c.requires.busy c.requires.taken c.requires.follows c.poll.new.self c.requires.part c.requires.open c.in_err-poll.ensures.memory
+    c.requires.sound c.requires.busy c.requires.taken c.requires.follows c.requires.turn c.poll.new.self c.requires.part c.requires.open c.in_err-poll.ensures.memory
     c.in_err-poll.ensures.follows c.in_err-poll.ensures.sound).memory
 
 pub returns-in_err-poll-clause-sound : goal.returns-in_err-poll-clause-sound
 returns-in_err-poll-clause-sound g c = (read_left (g.P.Port.client c.args.port.now) (g.P.Port.front c.args.port.now) (g.P.Port.front c.poll.new.port) c.args.self.now
-    c.requires.sound c.requires.busy c.requires.taken c.requires.follows c.poll.new.self c.requires.part c.requires.open c.in_err-poll.ensures.memory
+    c.requires.sound c.requires.busy c.requires.taken c.requires.follows c.requires.turn c.poll.new.self c.requires.part c.requires.open c.in_err-poll.ensures.memory
     c.in_err-poll.ensures.follows c.in_err-poll.ensures.sound).sound
 
 pub returns-in_err-poll-clause-follows : goal.returns-in_err-poll-clause-follows
 returns-in_err-poll-clause-follows g c = (read_left (g.P.Port.client c.args.port.now) (g.P.Port.front c.args.port.now) (g.P.Port.front c.poll.new.port) c.args.self.now
-    c.requires.sound c.requires.busy c.requires.taken c.requires.follows c.poll.new.self c.requires.part c.requires.open c.in_err-poll.ensures.memory
+    c.requires.sound c.requires.busy c.requires.taken c.requires.follows c.requires.turn c.poll.new.self c.requires.part c.requires.open c.in_err-poll.ensures.memory
     c.in_err-poll.ensures.follows c.in_err-poll.ensures.sound).follows
 
 pub returns-clause-polled : goal.returns-clause-polled
 returns-clause-polled g c = (read_came (g.P.Port.client c.args.port.now) (g.P.Port.front c.args.port.now) (g.P.Port.front c.poll.new.port) c.args.self.now
-    c.requires.sound c.requires.busy c.requires.taken c.requires.follows c.poll.new.self c.in_ok-poll.poll c.after_reader_poll.new.self c.counted-self.result
+    c.requires.sound c.requires.busy c.requires.taken c.requires.follows c.requires.turn c.poll.new.self c.in_ok-poll.poll c.after_reader_poll.new.self c.counted-self.result
     c.after_reader_poll.result c.requires.part c.requires.open
     (record { polled = c.in_ok-poll.ensures.polled; legal = c.in_ok-poll.ensures.legal; cost = c.in_ok-poll.ensures.cost })
     c.in_ok-poll.ensures.follows c.in_ok-poll.ensures.sound (c.counted-self.ensures ∙ ap (λ (k : ℕ). counted c.in_ok-poll.poll c.args.self.now.calls k) c.calls.ensures)
@@ -34,7 +32,7 @@ returns-clause-polled g c = (read_came (g.P.Port.client c.args.port.now) (g.P.Po
 
 pub returns-clause-sound : goal.returns-clause-sound
 returns-clause-sound g c = (read_came (g.P.Port.client c.args.port.now) (g.P.Port.front c.args.port.now) (g.P.Port.front c.poll.new.port) c.args.self.now
-    c.requires.sound c.requires.busy c.requires.taken c.requires.follows c.poll.new.self c.in_ok-poll.poll c.after_reader_poll.new.self c.counted-self.result
+    c.requires.sound c.requires.busy c.requires.taken c.requires.follows c.requires.turn c.poll.new.self c.in_ok-poll.poll c.after_reader_poll.new.self c.counted-self.result
     c.after_reader_poll.result c.requires.part c.requires.open
     (record { polled = c.in_ok-poll.ensures.polled; legal = c.in_ok-poll.ensures.legal; cost = c.in_ok-poll.ensures.cost })
     c.in_ok-poll.ensures.follows c.in_ok-poll.ensures.sound (c.counted-self.ensures ∙ ap (λ (k : ℕ). counted c.in_ok-poll.poll c.args.self.now.calls k) c.calls.ensures)
@@ -42,7 +40,7 @@ returns-clause-sound g c = (read_came (g.P.Port.client c.args.port.now) (g.P.Por
 
 pub returns-clause-follows : goal.returns-clause-follows
 returns-clause-follows g c = (read_came (g.P.Port.client c.args.port.now) (g.P.Port.front c.args.port.now) (g.P.Port.front c.poll.new.port) c.args.self.now
-    c.requires.sound c.requires.busy c.requires.taken c.requires.follows c.poll.new.self c.in_ok-poll.poll c.after_reader_poll.new.self c.counted-self.result
+    c.requires.sound c.requires.busy c.requires.taken c.requires.follows c.requires.turn c.poll.new.self c.in_ok-poll.poll c.after_reader_poll.new.self c.counted-self.result
     c.after_reader_poll.result c.requires.part c.requires.open
     (record { polled = c.in_ok-poll.ensures.polled; legal = c.in_ok-poll.ensures.legal; cost = c.in_ok-poll.ensures.cost })
     c.in_ok-poll.ensures.follows c.in_ok-poll.ensures.sound (c.counted-self.ensures ∙ ap (λ (k : ℕ). counted c.in_ok-poll.poll c.args.self.now.calls k) c.calls.ensures)
@@ -59,10 +57,14 @@ returns-clause-fault g c = λ h. c.in_ok-poll.ensures.fault (ap Ok (of_fault Rea
     c.after_reader_poll.ensures.forth (let same : c.after_reader_poll.result ≡ polls.Fault = cc in same)))
 
 pub returns-in_err-poll-clause-turn : goal.returns-in_err-poll-clause-turn
-returns-in_err-poll-clause-turn g c = read_still (g.P.Port.client c.args.port.now) (g.P.Port.front c.args.port.now) (g.P.Port.front c.poll.new.port) c.args.self.now c.requires.turn c.requires.busy
-    c.poll.new.self c.in_err-poll.ensures.memory
+returns-in_err-poll-clause-turn g c = (read_left (g.P.Port.client c.args.port.now) (g.P.Port.front c.args.port.now) (g.P.Port.front c.poll.new.port) c.args.self.now
+    c.requires.sound c.requires.busy c.requires.taken c.requires.follows c.requires.turn c.poll.new.self c.requires.part c.requires.open c.in_err-poll.ensures.memory
+    c.in_err-poll.ensures.follows c.in_err-poll.ensures.sound).turn
 
 pub returns-clause-turn : goal.returns-clause-turn
-returns-clause-turn g c = read_turned (g.P.Port.client c.args.port.now) (g.P.Port.front c.args.port.now) (g.P.Port.front c.poll.new.port) c.args.self.now c.requires.turn c.requires.busy
-    c.poll.new.self c.in_ok-poll.poll c.after_reader_poll.new.self c.counted-self.result (subst (IsOpen c.args.self.now) c.requires.part c.requires.open) c.in_ok-poll.ensures.polled
-    (ap (λ (n : Next). n.0) c.after_reader_poll.ensures.next)
+returns-clause-turn g c = (read_came (g.P.Port.client c.args.port.now) (g.P.Port.front c.args.port.now) (g.P.Port.front c.poll.new.port) c.args.self.now
+    c.requires.sound c.requires.busy c.requires.taken c.requires.follows c.requires.turn c.poll.new.self c.in_ok-poll.poll c.after_reader_poll.new.self c.counted-self.result
+    c.after_reader_poll.result c.requires.part c.requires.open
+    (record { polled = c.in_ok-poll.ensures.polled; legal = c.in_ok-poll.ensures.legal; cost = c.in_ok-poll.ensures.cost })
+    c.in_ok-poll.ensures.follows c.in_ok-poll.ensures.sound (c.counted-self.ensures ∙ ap (λ (k : ℕ). counted c.in_ok-poll.poll c.args.self.now.calls k) c.calls.ensures)
+    c.after_reader_poll.ensures.next c.after_reader_poll.ensures.course).turn
