@@ -26,7 +26,7 @@ out_moved : (g : Option ℕ) (s : ℕ) (us : List Update) → AllByRecursion (λ
 out_moved g s [] all = tt
 out_moved g s (u ∷ us) all = (uncovered g u.time (max u.time s) (no_less u.time s) all.0, out_moved g s us all.1)
 
-rises_in_part : (part us : List Update) (g : Option ℕ) → Part part us g → NeverFalls us g → NeverFalls part None
+pub rises_in_part : (part us : List Update) (g : Option ℕ) → Part part us g → NeverFalls us g → NeverFalls part None
 rises_in_part part us g h up = record { rises = λ q x c. subst (λ (z : ℤ). pos 0 ≤ℤ z) (sym (h.at q x)) (pick q x (covers g x) refl) }
   where
     pick : (q x : ℕ) (b : Bool) → covers g x ≡ b → pos 0 ≤ℤ cond b (change_at us q x) (pos 0)

@@ -17,6 +17,7 @@ pub mod Owning
 pub mod OwnPolls
 pub mod KnownStays
 pub mod Proposing
+pub mod MintSums
 pub mod Raising
 pub mod Sparing
 pub mod Passing

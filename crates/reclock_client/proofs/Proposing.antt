@@ -85,11 +85,14 @@ module _ (w : Writer) (shard : ShardId) (at : writers.shard_of w ≡ shard) (mem
         draft = moved_draft from_is to_is asked.draft;
       }
     where
-      moved_draft : e ≡ expected → n ≡ new → IsDraftOf (writers.shard_of w) asked.member w.token e n rows w.storing.trying.step w.storing.setting →
+      moved_draft : e ≡ expected → n ≡ new → IsDraftOf
+          (writers.shard_of w) asked.member w.token e n rows w.storing.trying.step w.storing.setting →
           IsDraftOf shard asked.member w.token expected new rows w.storing.trying.step w.storing.setting
-      moved_draft f t d = subst (λ (s : ShardId). IsDraftOf s asked.member w.token expected new rows w.storing.trying.step w.storing.setting) at
+      moved_draft f t d = subst (λ (s : ShardId). IsDraftOf s asked.member w.token expected new rows w.storing.trying.step
+          w.storing.setting) at
           (subst (λ (x : ℕ). IsDraftOf (writers.shard_of w) asked.member w.token x new rows w.storing.trying.step w.storing.setting) f
-          (subst (λ (x : Option ℕ). IsDraftOf (writers.shard_of w) asked.member w.token e x rows w.storing.trying.step w.storing.setting) t d))
+          (subst (λ (x : Option ℕ). IsDraftOf
+          (writers.shard_of w) asked.member w.token e x rows w.storing.trying.step w.storing.setting) t d))
   tries (Some asks.CloseWriter) is some asked = closes w.member asked
     where
       closes : (m : Option ℕ) → IsSomeAnd m (λ member. w.storing.trying.step ≡ Leave member) × (w.storing.setting.keys ≡ []) →
@@ -124,7 +127,8 @@ module _ (o : Operator) (rows : List Update) (expected : ℕ) (new : Option ℕ)
   publish_append (steps.AppendData from) (errands.Publish source) e h own =
       let is : asks.Append rows expected new
       ≡ asks.Append (slice_of (reclocked source (known o.course) 0) (Some from) o.course.synced) from o.course.synced =
-      subst (λ (x : Option Errand). IsAppendOf (slice_rows (known o.course) o.course.synced x from) from (asks.Append rows expected new)) e own in
+      subst (λ (x : Option Errand). IsAppendOf (slice_rows (known o.course) o.course.synced x from) from
+      (asks.Append rows expected new)) e own in
       let from_is : expected ≡ from = ap from_in is in
       record {
         source = source;
@@ -146,24 +150,29 @@ own_at o errand part e at own = subst (λ (p : Part). AsksAt (asks_of o) (duties
 
 pub remap_appends : RemapAppends
 remap_appends o s turn busy at some member token expected count weight new keys step =
-    let k = tries o.remap_writer o.remap s.machines.writes_remap member token expected count weight new keys step o.remap_writer.asked refl some
+    let k = tries o.remap_writer o.remap s.machines.writes_remap member token expected count weight new keys step o.remap_writer.asked
+    refl some
     s.machines.remap_writer.asked in
     record {
       rows = k.rows;
       member = k.member;
       draft = k.draft;
       rows_are = serves_at o turn.0 busy o.course.step refl (λ errand e h. mint_append o k.rows expected new o.course.step errand e h.takes
-          (subst (λ (a : Option Asked). IfSome a (AsksRemap (duties o) o.course.step)) k.asked_is (own_at o errand parts.RemapWriter e at turn.1)));
+          (subst (λ (a : Option Asked). IfSome a (AsksRemap (duties o) o.course.step)) k.asked_is
+          (own_at o errand parts.RemapWriter e at turn.1)));
     }
 
 pub data_appends : DataAppends
 data_appends o s turn busy at some member token expected count weight new keys step =
-    let k = tries o.data_writer o.data_shard s.machines.writes_data member token expected count weight new keys step o.data_writer.asked refl
+    let k = tries o.data_writer o.data_shard s.machines.writes_data member token expected count weight new keys step o.data_writer.asked
+    refl
     some s.machines.data_writer.asked in
     record {
       rows = k.rows;
       member = k.member;
       draft = k.draft;
-      rows_are = serves_at o turn.0 busy o.course.step refl (λ errand e h. publish_append o k.rows expected new o.course.step errand e h.takes
-          (subst (λ (a : Option Asked). IfSome a (AsksData (duties o) o.course.step)) k.asked_is (own_at o errand parts.DataWriter e at turn.1)));
+      rows_are = serves_at o turn.0 busy o.course.step refl
+          (λ errand e h. publish_append o k.rows expected new o.course.step errand e h.takes
+          (subst (λ (a : Option Asked). IfSome a (AsksData (duties o) o.course.step)) k.asked_is
+          (own_at o errand parts.DataWriter e at turn.1)));
     }

@@ -1,5 +1,5 @@
 -- What an operator knows is right, over the accepted updates of its remap shard.
-use Rattle.std.specs.Prelude.{◌≡◌, ◌≢◌, ℕ, ◌<◌, ◌≤◌, ◌+ℤ◌, pos, max, true, false, None, Option, List, ◌++◌}
+use Rattle.std.specs.Prelude.{◌≡◌, ◌≢◌, ℕ, ◌<◌, ◌≤◌, ◌+ℤ◌, pos, max, true, false, None, Some, Option, List, ◌++◌}
 use Rattle.std.specs.List.{AllByRecursion}
 use Rattle.std.specs.Ordering.{is_gt}
 use Rattle.update_core.specs.declared.rows.Row.{Row}
@@ -12,7 +12,7 @@ use Rattle.remap_core.specs.declared.source_rows.SourceRow.{SourceRow}
 use Rattle.remap_core.specs.Offsets.{offset, unset}
 use Rattle.remap_core.specs.Extending.{last_time, reached, rows_at, with_rows}
 use Rattle.remap_core.specs.Reclocking.{reclocked}
-use Rattle.remap_core.specs.RemapShards.{IsBindingsOf, NeverFalls, change_at, offset_of}
+use Rattle.remap_core.specs.RemapShards.{IsBindingsOf, NeverFalls, change_at, offset_of, partition_sum}
 use Rattle.write_client.specs.declared.writers.Writer.{Writer}
 use Rattle.write_client.specs.Beginning.{range_fault}
 use Rattle.reclock_client.specs.declared.courses.Course.{Course}
@@ -71,3 +71,10 @@ abbrev pub CollectionsAgree : Type 0
 CollectionsAgree = (us : List Update) (a b : Course) (rows : List SourceRow) (t : ℕ) → IsKnown us a → IsKnown us b
     → a.since ≤ t → b.since ≤ t → covers a.synced t ≡ true → covers b.synced t ≡ true
     → sum_of (reclocked rows (known a) 0) t ≡ sum_of (reclocked rows (known b) 0) t
+
+-- where all that is accepted comes before the synced upper, the rows of a mint from there on make each partition's sum at the mint's time
+-- the greater of the sum before and the offset seen
+abbrev pub MintRaisesSums : Type 0
+MintRaisesSums = (us : List Update) (c : Course) (u t : ℕ) (seen : List ℕ) (p : ℕ) → p < 256 → IsKnown us c → c.synced ≡ Some u → u ≤ t
+    → AllByRecursion (λ x. covers (Some u) x.time ≡ true) us
+    → offset_of (partition_sum (us ++ rises t (reached (known c)) seen) p t) ≡ max (offset_of (partition_sum us p t)) (offset seen p)

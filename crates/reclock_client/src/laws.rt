@@ -1,7 +1,7 @@
 // Laws of what an operator knows, each the contract of a function that does nothing. See docs/DEFINITIONS.md, "Operators".
 ghost use Rattle.machine_core.specs.Machines.{Keeps};
 ghost use Rattle.reclock_client.specs.Looking.{machine};
-ghost use Rattle.reclock_client.specs.Known.{CollectionsAgree, ContentIsKnown, KnownStays, MintFits, MintRaises, StepIsKnown};
+ghost use Rattle.reclock_client.specs.Known.{CollectionsAgree, ContentIsKnown, KnownStays, MintFits, MintRaises, MintRaisesSums, StepIsKnown};
 ghost use Rattle.reclock_client.specs.Proposals.{DataAppends, RemapAppends};
 
 /// After a content of the remap shard of which no row is foreign, the bindings are those of its updates.
@@ -27,6 +27,12 @@ pub fn collections_agree()
 /// The rows of a mint raise each partition to the greater of what was reached and what was seen.
 pub fn mint_raises()
     ensures { MintRaises }
+{}
+
+/// So where all that the remap shard has accepted comes before the synced upper, a mint from there on makes each partition's sum the greater
+/// of the sum before and the offset seen.
+pub fn mint_raises_sums()
+    ensures { MintRaisesSums }
 {}
 
 /// Where a token is left, the append of a mint from an upper at or below its time is refused for no other reason of its own: its range
