@@ -1,5 +1,6 @@
 mod Accepting
 mod Along
+mod Anchoring
 mod Bounds
 mod Commits
 mod Competing
@@ -7,7 +8,9 @@ mod Completing
 pub mod CrewLaws
 mod Examples
 mod FeedLaws
+mod Joining
 pub mod Keeping
+mod Leaving
 mod Readers
 mod Splits
 mod WorkedCrew

@@ -13,22 +13,23 @@ pub fn keeping_goes_on()
 {}
 
 /// What workers have added to a lawful history leaves it lawful. Supposes that the start stands for a list, that the history was
-/// lawful, and that each entry since is of a client that kept what a worker keeps; nothing of the appends, of an order among the
-/// clients, or of which of their calls failed. (docs/DEFINITIONS.md, "Crews".)
+/// lawful, and that each entry since is of a client that kept what a worker in its role keeps; nothing of the appends, of an order among
+/// the clients, or of which of their calls failed. (docs/DEFINITIONS.md, "Crews".)
 pub fn workers_lawful()
     ensures { WorkersLawful }
 {}
 
 /// And the collection afterwards is the one before, followed by the rows of the first few of the feed's appends from its upper on; its
-/// upper and weight are theirs, its since stays. Supposes what `workers_lawful` does, so that nothing but joins and leaves of writers
-/// and keepers, merges and these appends was committed; that there was a collection before; and that the appends follow on from 0, each
-/// ending later than it begins. Nothing of their rows or weights. (docs/DEFINITIONS.md, "Crews".)
+/// upper and weight are theirs, its since stays. Supposes what `workers_lawful` does, so that nothing but joins and leaves of writers and
+/// keepers, joins and leaves of readers that joined since, renewals, merges and these appends was committed; that a writer's appends are
+/// these; that there was a collection before; and that the appends follow on from 0, each ending later than it begins. Nothing of their
+/// rows or weights. (docs/DEFINITIONS.md, "Crews".)
 pub fn competing_appends()
     ensures { CompetingAppends }
 {}
 
-/// And a reader that stood before stands afterwards, with the same since. Supposes what `workers_lawful` does; nothing of whose member it
-/// is. (docs/DEFINITIONS.md, "Crews".)
+/// And a reader that stood before stands afterwards, with the same since. Supposes what `workers_lawful` does, and so of a follower that it
+/// leaves no member but one that it joined since; nothing of whose member the reader is. (docs/DEFINITIONS.md, "Crews".)
 pub fn readers_stay()
     ensures { ReadersStay }
 {}
