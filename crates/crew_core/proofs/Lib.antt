@@ -8,9 +8,11 @@ mod Completing
 pub mod CrewLaws
 mod Examples
 mod FeedLaws
+mod Hearing
 mod Joining
 pub mod Keeping
 mod Leaving
+pub mod Opening
 mod Readers
 mod Splits
 mod WorkedCrew

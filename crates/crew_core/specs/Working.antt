@@ -1,5 +1,5 @@
 -- What a worker of a crew calls. A client's own entries go newest first. docs/DEFINITIONS.md, "Crews".
-use Rattle.std.specs.Prelude.{⊤, ◌≡◌, ◌⊎◌, ℕ, ◌+◌, ◌-◌, Bool, true, false, Some, None, List, length, take}
+use Rattle.std.specs.Prelude.{⊤, ◌≡◌, ◌⊎◌, ℕ, ◌+◌, ◌-◌, ◌≤◌, Bool, true, false, Some, None, List, length, take}
 use Rattle.update_core.specs.declared.appends.FeedAppend.{FeedAppend}
 use Rattle.update_core.specs.Updates.{cons, weight_of}
 use Rattle.spine_core.specs.declared.batches.Batch.{Batch}
@@ -19,7 +19,9 @@ use Rattle.state_core.specs.Lists.{Among}
 use Rattle.state_core.specs.States.{ShardState}
 use Rattle.state_core.specs.VersionReading.{version_in}
 use Rattle.history_core.specs.Discipline.{Allows, Hold, StoredAs}
+use Rattle.history_core.specs.Legal.{ReaderJoined}
 use Rattle.history_core.specs.Members.{JoinedAs}
+use Rattle.history_core.specs.Placing.{places}
 use Rattle.crew_core.specs.declared.jobs.Job.{Job}
 use Rattle.crew_core.specs.declared.jobs.Job.TheVariants as jobs
 
@@ -122,3 +124,13 @@ CarriesWorkers role shard own _ = ⊤
 pub record IsWorkersEntry (role : Role) (shard : ShardId) (start : Stored) (es : List Entry) (e : Entry) : Type 0 where
   pub allowed : Allows (mine_back start es e.client) e.call
   pub carries : CarriesWorkers role shard (mine_back start es e.client) e.call
+
+-- ---- a law
+
+-- The member that an open of a reader is answered is one that the client has joined past its first entries, where the open's calls are
+-- past them.
+abbrev pub JoinsSince : Type 0
+JoinsSince =
+    (start : Stored) (shard : ShardId) (client count calls : ℕ) (es : List Entry) (member version now lease since : ℕ) →
+    ReaderJoined start shard now lease member version since (places client calls es) →
+    count + calls ≤ length (mine_back start es client) → JoinedAs Reader (past_first count (mine_back start es client)) shard member

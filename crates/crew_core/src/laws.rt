@@ -1,7 +1,9 @@
 // Laws of what workers do together, each the contract of a function that does nothing. docs/DEFINITIONS.md, "Crews".
 ghost use Rattle.crew_core.specs.Competing.{CompetingAppends, MergesLeave, ReadersStay, StorersCommitAccepted, WorkersLawful};
 ghost use Rattle.crew_core.specs.Completing.{BoundStays, CompleteFromEmpty, CompleteIsPlain};
+ghost use Rattle.crew_core.specs.Hearing.{HeardStays, HearsOn};
 ghost use Rattle.crew_core.specs.KeepingOn.{KeptPastACall, KeptPastOthers, KeptTwice};
+ghost use Rattle.crew_core.specs.Working.{JoinsSince};
 
 /// What a client keeps as a worker it goes on keeping: past entries of others; over two stretches of its front, one after the other;
 /// and past a call of its own. Supposes of that call that its entry is a worker's where what came before it is lawful and the start
@@ -60,4 +62,18 @@ pub fn complete_is_plain()
 /// collection grew by the first few of them from its upper on. (docs/DEFINITIONS.md, "Crews".)
 pub fn bound_stays()
     ensures { BoundStays }
+{}
+
+/// What a listen has heard, the slice of the accepted updates from its start to its frontier at some place, it has heard also later; and a
+/// step from that frontier, answered at the end of a longer history, makes it the slice up to the upper there. Supposes of the second that
+/// the start stands for a list and that the history is lawful; nothing of who listens or appends. (docs/DEFINITIONS.md, "Crews".)
+pub fn hearing_goes_on()
+    ensures stays { HeardStays }
+    ensures on { HearsOn }
+{}
+
+/// The member that an open of a reader is answered is one that its client joined since the crew began, so that it may leave it. Supposes that
+/// the answer is legal and that the open's calls were made since. (docs/DEFINITIONS.md, "Crews".)
+pub fn readers_join_since()
+    ensures { JoinsSince }
 {}
