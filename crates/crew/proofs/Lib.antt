@@ -5,6 +5,7 @@ mod CollectTurning
 mod CrewEnds
 mod Endings
 mod Looping
+mod MeansGrown
 mod MergeBeginnings
 mod MergeCarries
 mod MergeTurning

@@ -34,8 +34,8 @@ use Rattle.crew.specs.Crews.{IsEndOf, LeavesPin}
 use Rattle.crew.specs.Plans.{client_of, first_of, job_of, workers_of}
 use Rattle.crew.specs.Pinning.{IsPinLeft, IsPinOf}
 use Rattle.crew.specs.Posts.{opened}
-use Rattle.crew.specs.Seats.{HasNumber, HasPin, HasWorked, HaveNone, IsPrefixOf, IsReadySeat, IsSeated, NoPin, NumberedFrom, PinsIdle, PinsLeft}
-use Rattle.crew.specs.Seats.{PlacedFrom, Shows, ShowsSeat, Works, ends_of, pins_of}
+use Rattle.crew.specs.Seats.{HasNumber, HasPin, HasWorked, HaveNone, IsPrefixOf, IsReadySeat, IsSeated, NoPin, NumberedFrom}
+use Rattle.crew.specs.Seats.{PinsIdle, PinsLeft, PlacedFrom, Shows, ShowsSeat, Works, ends_of, pins_of}
 use Rattle.crew.proofs.CrewEnds.{front_none}
 use Rattle.crew.proofs.Numbers.{client_first, is_client, is_next, next_of, no_pin, pin_at, pin_job}
 use Rattle.crew.proofs.PortKeeping.{front_is}
@@ -105,7 +105,8 @@ module _ {S : Type 0} {G : Ghosts S} (plan : Plan) (t : Turnstile (CountedStore 
   ready_one worker s seated number job (Some r) (at, (idle, is)) =
       let w : View S Entry = view seated.pass in
       let number_is : w.number ≡ client_of plan worker =
-      subst (λ (o : Option (Pass (CountedStore S G) S Entry)). IfSome o (λ p. (view p).number ≡ client_of plan worker)) seated.there number in
+      subst (λ (o : Option (Pass (CountedStore S G) S Entry)). IfSome o (λ p. (view p).number ≡ client_of plan worker)) seated.there
+      number in
       let zero_is : w.number ≡ 0 = number_is ∙ client_first plan worker at in
       let front : front_of G.history v ≡ front_of G.history w =
       ap (λ (o : Option (S × List Entry)). told_history G.history (with_more o v.gain)) (start ∙ sym seated.is_pass.start)
@@ -207,8 +208,8 @@ module _ {S : Type 0} {G : Ghosts S} (plan : Plan) (t : Turnstile (CountedStore 
       let first : Works plan.appends plan.shard t x y = works 0 x (omega arith) in (
         by y.pin refl
             (held_at x.pin y.pin (λ r. (r.asked ≡ None) × IsPinOf plan.shard 0 front r) (worker ≡ first_of plan) first.held a.0 y.pin refl),
-        pins_left front (worker + 1) xs ys (omega arith) (λ i f lt. works (suc i) f (omega arith)) a.1 (is_next plan worker y c.0 ys b.1) c.1
-            d.1 e.1,
+        pins_left front (worker + 1) xs ys (omega arith) (λ i f lt. works (suc i) f (omega arith)) a.1
+            (is_next plan worker y c.0 ys b.1) c.1 d.1 e.1,
       )
     where
       by : (o : Option Reader) → y.pin ≡ o → IfSome o (λ r. worker ≡ first_of plan) →
@@ -298,8 +299,8 @@ module _ {S : Type 0} {G : Ghosts S} (plan : Plan) (seats : List (Seat S G)) (al
       by zero e = inl (none_pin e)
       by (suc n) e = inr (k (let same : plan.collectors ≡ suc n = e in omega arith))
 
-  pub left_back : (now : Option History) (pin result : Reader) (back : Option Reader) (pins : List (Option Reader)) (ends : List WorkerEnd) →
-      0 < plan.collectors → pin.asked ≡ None → IfSome back (λ r. (r ≡ pin) × (NoPin seats ⊎ (pin.asked ≢ None))) →
+  pub left_back : (now : Option History) (pin result : Reader) (back : Option Reader) (pins : List (Option Reader))
+      (ends : List WorkerEnd) → 0 < plan.collectors → pin.asked ≡ None → IfSome back (λ r. (r ≡ pin) × (NoPin seats ⊎ (pin.asked ≢ None))) →
       IfNone back (Among (λ p. p ≡ Some result) pins) → PinsLeft plan now 0 pins ends → LeavesPin plan now result ends
   left_back now pin result (Some r) pins ends some idle was there left =
       absurd (elim was.1 [ inl k ↦ one_has some k | inr k ↦ k idle ])

@@ -79,8 +79,8 @@ keeps_as_pin shard client (Some h) now (more, is, k) = (
       },
 )
 
-means_as_pin : (shard : ShardId) (client : ℕ) (front : Option History) (turn : WorkerTurn) → TurnMeans as_collector shard client front turn →
-    TurnMeans as_pin shard client front turn
+means_as_pin : (shard : ShardId) (client : ℕ) (front : Option History) (turn : WorkerTurn) →
+    TurnMeans as_collector shard client front turn → TurnMeans as_pin shard client front turn
 means_as_pin shard client front turns.Again k = tt
 means_as_pin shard client front (turns.End ends.Finished) k = k
 means_as_pin shard client front (turns.End (ends.Misfit upper)) k = k
@@ -190,7 +190,8 @@ module _ (client : ℕ) (front now : Option History) (w : PinWorker) (ready : Is
       by (Some (asks.RenewReader at)) e some renews =
           let asks_so : AsksAs (shard_of w.pin) w.pin.member w.pin.trying.step w.pin.listen (asks.RenewReader at) =
           subst (λ (o : Option Asked). IfSome o (IsAsked w.pin)) e ready.pin.sound.asked in
-          let none : question r ≡ None = ap (λ (k : Kept). question_of k.asked k.listen) same ∙ ap (λ (o : Option Asked). question_of o w.pin.listen) e in
+          let none : question r ≡ None = ap (λ (k : Kept). question_of k.asked k.listen) same
+          ∙ ap (λ (o : Option Asked). question_of o w.pin.listen) e in
           carried own (shard_of w.pin) (Opens w.pin.asked) w.pin.trying.step call
           (λ k. subst (λ (o : Option Asked). Opens o) e k)
           (sets_none r.trying call (subst (λ (q : Option Question). call_by r q ≡ Some call) none is))
@@ -295,7 +296,8 @@ module _ (client : ℕ) (front now : Option History) (w : PinWorker) (ready : Is
       by polls.Fault k goes = subst leaves (sym goes)
           (left_open new ends.Faulted (polled_pin new polls.Fault k sound follows) (ap (λ (k : Kept). k.asked) (k.stays tt).0) tt)
       by polls.Spent k goes = subst leaves (sym goes)
-          (left_shut new ends.Spent (polled_pin new polls.Spent k sound follows) (shut_by k.ready new k.reply polls.Spent (λ r. refl) k.moves))
+          (left_shut new ends.Spent (polled_pin new polls.Spent k sound follows)
+          (shut_by k.ready new k.reply polls.Spent (λ r. refl) k.moves))
       by (polls.Damaged damage) k goes = subst leaves (sym goes)
           (left_shut new (ends.Damaged damage) (polled_pin new (polls.Damaged damage) k sound follows)
           (shut_by k.ready new k.reply (polls.Damaged damage) (λ r. refl) k.moves))

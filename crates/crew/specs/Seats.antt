@@ -1,5 +1,6 @@
 -- Seats of a crew, each with a worker's pass.
-use Rattle.std.specs.Prelude.{⊤, ◌≡◌, ◌⊎◌, is_some, ℕ, ◌+◌, ◌<◌, true, false, if◌then◌else◌, Option, Some, None, IfSome, List, [], ◌∷◌, length}
+use Rattle.std.specs.Prelude.{⊤, ◌≡◌, ◌⊎◌, is_some, ℕ, ◌+◌, ◌<◌, true, false, if◌then◌else◌, Option, Some, None, IfSome, List}
+use Rattle.std.specs.Prelude.{[], ◌∷◌, length}
 use Rattle.std.specs.List.{AllByRecursion}
 use Rattle.update_core.specs.declared.appends.FeedAppend.{FeedAppend}
 use mathlib.Core.List.{IsPrefix}

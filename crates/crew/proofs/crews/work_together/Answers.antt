@@ -141,14 +141,17 @@ returns-clause-pins g c =
     let numbered = all_numbered appends plan.shard t xs ys (next_of plan 0) len works numbers in
     let placed = all_placed appends plan.shard t plan 0 xs ys len works (c.deal-kept.ensures.places plan 0 c.requires.places) in
     let left = pins_left plan t w c.gather_all-pass.ensures.pass.start front 0 xs ys len
-    (subst (λ (fs : List FeedAppend). (i : ℕ) (d : _) → i < length xs → Works fs plan.shard t (slice_index_or xs i d) (slice_index_or ys i d))
+    (subst (λ (fs : List FeedAppend). (i : ℕ) (d : _) → i < length xs →
+    Works fs plan.shard t (slice_index_or xs i d) (slice_index_or ys i d))
     c.as_slice-appends.ensures works)
     (subst (PinsIdle plan front 0) (sym c.deal-kept.ensures.pins) c.requires.pins) numbered placed c.gather_all-pass.ensures.theirs
     c.gather_all-pass.ensures.prefix in
-    subst (λ (f : Option History). PinsLeft plan f 0 (pins_of c.gather_all-pass.new.seats) c.gather_all-pass.new.ends) (sym c.close.ensures.history)
+    subst (λ (f : Option History). PinsLeft plan f 0 (pins_of c.gather_all-pass.new.seats) c.gather_all-pass.new.ends)
+    (sym c.close.ensures.history)
     (subst (λ (ps : List (Option Reader)). PinsLeft plan (front_of g.S.Store.history w) 0 ps c.gather_all-pass.new.ends)
     (sym c.gather_all-pass.ensures.pins)
-    (subst (λ (es : List WorkerEnd). PinsLeft plan (front_of g.S.Store.history w) 0 (pins_of ys) es) (sym c.gather_all-pass.ensures.ends) left))
+    (subst (λ (es : List WorkerEnd). PinsLeft plan (front_of g.S.Store.history w) 0 (pins_of ys) es)
+    (sym c.gather_all-pass.ensures.ends) left))
 
 pub returns-clause-held : goal.returns-clause-held
 returns-clause-held g c = λ has.
@@ -158,6 +161,7 @@ returns-clause-held g c = λ has.
     let ys = c.sit_all.new.seats in
     subst HasPin (sym c.gather_all-pass.ensures.pins)
     (all_held plan t (view c.gather_all-pass.result) c.gather_all-pass.ensures.pass.start xs ys c.sit_all.ensures.length
-    (subst (λ (fs : List FeedAppend). (i : ℕ) (d : _) → i < length xs → Works fs plan.shard t (slice_index_or xs i d) (slice_index_or ys i d))
+    (subst (λ (fs : List FeedAppend). (i : ℕ) (d : _) → i < length xs →
+    Works fs plan.shard t (slice_index_or xs i d) (slice_index_or ys i d))
     c.as_slice-appends.ensures c.sit_all.ensures.worked)
     (subst HasPin (sym c.deal-kept.ensures.pins) has))
