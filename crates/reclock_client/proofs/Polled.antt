@@ -1,6 +1,6 @@
 -- What a poll of an inner machine leaves of an operator.
 use Rattle.std.proofs.Common.{◌≡◌, ℕ, Option, Result, Ok, Err, refl, sym, ap, subst, ◌∙◌}
-use Rattle.std.specs.Prelude.{IsSome, OnErr}
+use Rattle.std.specs.Prelude.{IfOk, IsSome, OnErr}
 use Rattle.std.specs.declared.alloc.AllocError.{AllocError}
 use Rattle.store_core.specs.Histories.{History}
 use Rattle.history_core.specs.declared.read_answers.ReadAnswer.{ReadAnswer}
@@ -32,7 +32,7 @@ use Rattle.reclock_client.specs.Commands.{published_from}
 use Rattle.reclock_client.specs.Looking as looks
 use Rattle.reclock_client.specs.Looking.{looking}
 use Rattle.reclock_client.specs.Operators.{Follows, IsOpen, IsSound, Settles, part_of}
-use Rattle.reclock_client.specs.Polling.{Comes, Inner, PolledBy, UnpolledBy, counted}
+use Rattle.reclock_client.specs.Polling.{Comes, Inner, Polled as PolledNow, PolledBy, Starts, UnpolledBy, bound, counted}
 use Rattle.reclock_client.specs.Turns.{AtStep}
 use Rattle.reclock_client.proofs.LookRule as look_laws
 use Rattle.reclock_client.proofs.Passing.{passed_memory, passed_poll}
@@ -254,3 +254,17 @@ module _ (client : ℕ) (front now : Option History) (o : Operator) (s : IsSound
         follows = look_follows client front now o s f o.course o.calls l turn here
             (passed_memory (Tryer Look) (Option ℕ) looks.machine client front now o.looker l u) own;
       }
+
+-- ---- what was ready is what was polled
+
+pub polled_ready : (client : ℕ) (front now : Option History) (o ready new : Operator) (c : Course) → c ≡ bound o.course →
+    Starts (part_of c.step) (record o { course = c }) ready → IsSound ready → InTurn ready → (r : Result (Poll ClockAnswer) AllocError) →
+    IfOk r (PolledBy (part_of ready.course.step) client front now ready new) → IfOk r (PolledNow client front now o new)
+polled_ready client front now o ready new c is starts sound turn (Ok poll) polled = record {
+  ready = ready;
+  readies = subst (λ (x : Course). Starts (part_of x.step) (record o { course = x }) ready) is starts;
+  sound = sound;
+  turn = turn;
+  polled = polled;
+}
+polled_ready client front now o ready new c is starts sound turn (Err e) polled = tt

@@ -1,15 +1,20 @@
 -- What an operator's writers append is a mint's or a publish's.
-use Rattle.std.proofs.Common.{◌≡◌, ℕ, ◌≤◌, true, false, Option, Some, None, List, [], refl, sym, ap, subst, ◌∙◌}
+use Rattle.std.proofs.Common.{◌≡◌, ℕ, ◌+◌, ◌≤◌, true, false, Option, Some, None, List, [], refl, sym, ap, subst, ◌∙◌}
 use Rattle.std.specs.Prelude.{IfSome, IsSome, IsSomeAnd}
 use Rattle.update_core.specs.declared.updates.Update.{Update}
 use Rattle.update_core.specs.Frontiers.{after, covers}
 use Rattle.update_core.specs.Updates.{slice_of}
 use Rattle.store_core.specs.declared.shards.ShardId.{ShardId}
+use Rattle.store_core.specs.declared.calls.Call.{Call}
+use Rattle.store_core.specs.declared.calls.Call.TheVariants as calls
 use Rattle.store_core.specs.declared.part_keys.PartKey.{PartKey}
 use Rattle.state_core.specs.declared.transitions.Transition.{Transition}
 use Rattle.state_core.specs.declared.transitions.Transition.TheVariants.{Append, Leave}
+use Rattle.state_core.specs.States.{ShardState}
+use Rattle.state_core.specs.VersionReading.{version_in}
 use Rattle.history_core.specs.declared.asked.Asked.{Asked}
 use Rattle.history_core.specs.declared.asked.Asked.TheVariants as asks
+use Rattle.load_core.specs.Runs.{OnlyCarries}
 use Rattle.write_client.specs.declared.writers.Writer.{Writer}
 use Rattle.write_client.specs.Drafting.{IsDraftOf}
 use Rattle.write_client.specs.Writing as writers
@@ -26,7 +31,7 @@ use Rattle.reclock_client.specs.Asking.{AsksAt, AsksData, AsksOwn, AsksRemap, Is
 use Rattle.reclock_client.specs.Known.{known}
 use Rattle.reclock_client.specs.Minting.{mint_rows, rises, slice_rows}
 use Rattle.reclock_client.specs.Parts.{part_of}
-use Rattle.reclock_client.specs.Proposals.{DataAppends, IsMintAppend, IsPublishAppend, RemapAppends}
+use Rattle.reclock_client.specs.Proposals.{DataAppends, IsMintAppend, IsPublishAppend, RemapAppends, DataCalls, RemapCalls}
 use Rattle.reclock_client.specs.Turns.{Takes, clients, heard}
 use Rattle.reclock_client.proofs.Turning.{serves_at}
 
@@ -176,3 +181,39 @@ data_appends o s turn busy at some member token expected count weight new keys s
           (subst (λ (a : Option Asked). IfSome a (AsksData (duties o) o.course.step)) k.asked_is
           (own_at o errand parts.DataWriter e at turn.1)));
     }
+
+-- ---- what a call carries
+
+abbrev steps_of : Transition → Option (ShardState × Transition) → Transition
+steps_of d None = d
+steps_of d (Some v) = v.1
+
+-- one transition stands in the bytes
+same_step : (a b : ShardState) (x y : Transition) (v : Option (ShardState × Transition)) → v ≡ Some (a, x) → v ≡ Some (b, y) → x ≡ y
+same_step a b x y v h k = ap (steps_of x) (sym h ∙ k)
+
+carried : (at_shard : ShardId) (tried : Transition) (call : Call) (shard : ShardId) (number : ℕ) (bytes : List ℕ) (to : ShardState)
+    (step : Transition) → call ≡ calls.Cas shard (Some number) bytes → version_in shard (number + 1) bytes ≡ Some (to, step) →
+    OnlyCarries at_shard tried call → (shard ≡ at_shard) × (tried ≡ step)
+carried at_shard tried call shard number bytes to step is written carries =
+    let k = subst (OnlyCarries at_shard tried) is carries in (
+      k.0,
+      same_step k.1.0 to tried step (version_in at_shard (number + 1) bytes) k.1.1
+          (subst (λ (x : ShardId). version_in x (number + 1) bytes ≡ Some (to, step)) k.0 written),
+    )
+
+pub remap_calls : RemapCalls
+remap_calls o s turn busy at some client front now w poll c shard number bytes to member token expected count weight new keys is written =
+    let k = carried (writers.shard_of o.remap_writer) o.remap_writer.storing.trying.step c.call shard number bytes to
+    (Append member token expected new keys count weight) is written c.effect.carries in (
+      k.0 ∙ s.machines.writes_remap,
+      remap_appends o s turn busy at some member token expected count weight new keys k.1,
+    )
+
+pub data_calls : DataCalls
+data_calls o s turn busy at some client front now w poll c shard number bytes to member token expected count weight new keys is written =
+    let k = carried (writers.shard_of o.data_writer) o.data_writer.storing.trying.step c.call shard number bytes to
+    (Append member token expected new keys count weight) is written c.effect.carries in (
+      k.0 ∙ s.machines.writes_data,
+      data_appends o s turn busy at some member token expected count weight new keys k.1,
+    )

@@ -1,11 +1,19 @@
 -- What an operator's writers append: a mint's rows to the remap shard, a publish's to the data shard.
-use Rattle.std.specs.Prelude.{◌≡◌, ℕ, ◌≤◌, true, Option, Some, IsSome, List}
+use Rattle.std.specs.Prelude.{◌≡◌, ℕ, ◌+◌, ◌≤◌, true, Option, Some, IsSome, List}
 use Rattle.update_core.specs.declared.updates.Update.{Update}
 use Rattle.update_core.specs.Frontiers.{after, covers}
 use Rattle.update_core.specs.Updates.{slice_of}
 use Rattle.store_core.specs.declared.shards.ShardId.{ShardId}
+use Rattle.store_core.specs.declared.calls.Call.TheVariants as calls
+use Rattle.store_core.specs.Histories.{History}
 use Rattle.store_core.specs.declared.part_keys.PartKey.{PartKey}
 use Rattle.state_core.specs.declared.transitions.Transition.TheVariants.{Append}
+use Rattle.state_core.specs.States.{ShardState}
+use Rattle.state_core.specs.VersionReading.{version_in}
+use Rattle.history_core.specs.declared.write_answers.WriteAnswer.{WriteAnswer}
+use Rattle.load_core.specs.declared.polls.Poll.{Poll}
+use Rattle.machine_core.specs.Polling.{Calls}
+use Rattle.write_client.specs.Machining as writes
 use Rattle.write_client.specs.declared.writers.Writer.{Writer}
 use Rattle.write_client.specs.Drafting.{IsDraftOf}
 use Rattle.remap_core.specs.declared.source_rows.SourceRow.{SourceRow}
@@ -59,3 +67,24 @@ DataAppends = (o : Operator) → IsSound o → InTurn o → IsSome o.course.erra
     IsSome o.data_writer.asked → (member token expected count weight : ℕ) (new : Option ℕ) (keys : List PartKey) →
     o.data_writer.storing.trying.step ≡ Append member token expected new keys count weight →
     Appends o.data_writer o.data_shard expected new (IsPublishAppend o expected new)
+
+-- Each append that a poll of the remap shard's writer commits, or may have committed, is a mint's: wherever its call is a Cas on a
+-- version whose bytes have an append as their transition.
+abbrev pub RemapCalls : Type 0
+RemapCalls = (o : Operator) → IsSound o → InTurn o → IsSome o.course.errand → part_of o.course.step ≡ parts.RemapWriter →
+    IsSome o.remap_writer.asked → (client : ℕ) (front front_now : Option History) (w : Writer) (poll : Poll WriteAnswer) →
+    (c : Calls writes.machine client front front_now o.remap_writer w poll) →
+    (shard : ShardId) (number : ℕ) (bytes : List ℕ) (to : ShardState) (member token expected count weight : ℕ) (new : Option ℕ)
+    (keys : List PartKey) → c.call ≡ calls.Cas shard (Some number) bytes →
+    version_in shard (number + 1) bytes ≡ Some (to, Append member token expected new keys count weight) →
+    (shard ≡ o.remap) × Appends o.remap_writer o.remap expected new (IsMintAppend o expected new)
+
+-- and of the data shard's writer a publish's
+abbrev pub DataCalls : Type 0
+DataCalls = (o : Operator) → IsSound o → InTurn o → IsSome o.course.errand → part_of o.course.step ≡ parts.DataWriter →
+    IsSome o.data_writer.asked → (client : ℕ) (front front_now : Option History) (w : Writer) (poll : Poll WriteAnswer) →
+    (c : Calls writes.machine client front front_now o.data_writer w poll) →
+    (shard : ShardId) (number : ℕ) (bytes : List ℕ) (to : ShardState) (member token expected count weight : ℕ) (new : Option ℕ)
+    (keys : List PartKey) → c.call ≡ calls.Cas shard (Some number) bytes →
+    version_in shard (number + 1) bytes ≡ Some (to, Append member token expected new keys count weight) →
+    (shard ≡ o.data_shard) × Appends o.data_writer o.data_shard expected new (IsPublishAppend o expected new)

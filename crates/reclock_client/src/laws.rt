@@ -2,7 +2,7 @@
 ghost use Rattle.machine_core.specs.Machines.{Keeps};
 ghost use Rattle.reclock_client.specs.Looking.{machine};
 ghost use Rattle.reclock_client.specs.Known.{CollectionsAgree, ContentIsKnown, KnownStays, MintFits, MintRaises, MintRaisesSums, StepIsKnown};
-ghost use Rattle.reclock_client.specs.Proposals.{DataAppends, RemapAppends};
+ghost use Rattle.reclock_client.specs.Proposals.{DataAppends, DataCalls, RemapAppends, RemapCalls};
 
 /// After a content of the remap shard of which no row is foreign, the bindings are those of its updates.
 pub fn content_is_known()
@@ -51,6 +51,16 @@ pub fn remap_appends()
 /// and its rows are those between them that the known bindings give.
 pub fn data_appends()
     ensures { DataAppends }
+{}
+
+/// So each append that a poll of the remap shard's writer commits is a mint's.
+pub fn remap_calls()
+    ensures { RemapCalls }
+{}
+
+/// And each that a poll of the data shard's writer commits is a publish's.
+pub fn data_calls()
+    ensures { DataCalls }
 {}
 
 /// A look at a shard's upper is a machine of which all holds that a poll asks for: it may make its calls, and its answer is the upper
