@@ -8,7 +8,7 @@ use Rattle.update_core.specs.declared.updates.Update.{Update}
 use Rattle.part_codec.specs.declared.part_faults.PartFault.{PartFault}
 use Rattle.part_codec.specs.Parts.{NonZero, Part, Rising}
 use Rattle.part_codec.specs.Reading.{all_of}
-use Rattle.store_core.specs.ByteLists.{IsBytes}
+use Rattle.byte_core.specs.ByteLists.{IsBytes}
 use Rattle.part_codec.proofs.Parts.{all_again, is_found}
 use Rattle.history_core.specs.Readings.{rows_in, are_bytes}
 

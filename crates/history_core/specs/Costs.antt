@@ -50,10 +50,6 @@ Within made remaining base foreign failed = made + remaining ≤ base + 2 * (for
 abbrev pub WithinReads : ℕ → ℕ → ℕ → ℕ → Type 0
 WithinReads made remaining base failed = made + remaining ≤ base + failed
 
--- the base of an open, a close, a renew, an advance and an expiry
-abbrev pub change_base : ℕ
-change_base = 3
-
 -- the base of an append of so many parts
 abbrev pub append_base : ℕ → ℕ
 append_base parts = parts + 3

@@ -9,7 +9,7 @@ use Rattle.store_core.specs.declared.entries.Entry.{Entry}
 use Rattle.store_core.specs.Stores.{Stored}
 use Rattle.store_core.specs.Histories.{faults_of}
 use Rattle.store_core.specs.Ports.{OfOthers}
-use Rattle.state_core.specs.VersionReading.{most}
+use Rattle.version_codec.specs.Reading.{most}
 use Rattle.history_core.specs.declared.asked.Asked.{Asked}
 use Rattle.history_core.specs.declared.asked.Asked.TheVariants as asks
 use Rattle.history_core.specs.declared.collect_answers.CollectAnswer.{CollectAnswer}
@@ -146,11 +146,6 @@ module _ (client : ℕ) (m new : Collector) (call : Call) (poll : Poll CollectAn
     where
       scans : e.call ≡ calls.Scan m.shard 0
       scans = call_is client m new call poll list start e others es a c ∙ ap (λ (o : Option Sweep). call_after m.shard o) none
-
-reads_scan : (m : Collector) (call : Call) → m.sweep ≡ None → Some (call_after m.shard m.sweep) ≡ Some call → IsReading call
-reads_scan m call none is =
-    let same : call_after m.shard m.sweep ≡ call = cc in
-    subst IsReading (sym (ap (λ (o : Option Sweep). call_after m.shard o) none) ∙ same) tt
 
 pub keeps : Keeps collecting
 keeps = record {

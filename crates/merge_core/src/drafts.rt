@@ -1,7 +1,7 @@
 // The draft of a merge.
 ghost use Rattle.std.specs.Prelude.{◌≡◌, ◌≤◌, ◌^◌, IfOk};
 ghost use Rattle.std.specs.List.{AllByRecursion};
-ghost use Rattle.store_core.specs.ByteLists.{IsBytes};
+ghost use Rattle.byte_core.specs.ByteLists.{IsBytes};
 ghost use Rattle.update_core.specs.Updates.{weight_of};
 ghost use Rattle.merge_core.specs.Drafting.{IsDraft, merged_batch};
 

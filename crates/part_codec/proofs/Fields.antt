@@ -4,12 +4,13 @@ use Rattle.std.specs.Int.{Width, w32, w64, byte_len, from_be_bytes, to_be_bytes}
 use Rattle.std.proofs.lemmas.Bool.{cases_lt, ltb-false, le-ltb, eqb-true}
 use Rattle.std.proofs.lemmas.Bool.Decides.{nat_tests}
 use Rattle.std.proofs.lemmas.List.{take_at, drop_at, take-append-drop, length-append, length-take, get_or-drop, get_or-take, get_or_past}
-use Rattle.std.proofs.lemmas.Nat.{be_bytes_4, be_bytes_8, from_be_bytes-to_be_bytes_4, from_be_bytes-to_be_bytes_8}
-use Rattle.store_core.specs.ByteLists.{IsBytes}
-use Rattle.store_core.proofs.ByteLists.{IsBytes-drop, IsBytes-take, IsBytes-rest}
+use Rattle.byte_core.specs.ByteLists.{IsBytes}
+use Rattle.byte_core.proofs.ByteLists.{IsBytes-drop, IsBytes-take, IsBytes-rest}
+use Rattle.byte_core.proofs.Wide.{IsWide, wide32, wide64}
 use Rattle.part_codec.specs.declared.part_faults.PartFault.{PartFault}
 use Rattle.part_codec.specs.declared.part_faults.PartFault.TheVariants as faults
-use Rattle.part_codec.specs.Reading.{◌>>=◌, place, byte_at, number_at, magic, magic_at, form_at, count_at, length_at, datum_at, bits_at}
+use Rattle.byte_core.specs.Reading.{place}
+use Rattle.part_codec.specs.Reading.{◌>>=◌, byte_at, number_at, magic, magic_at, form_at, count_at, length_at, datum_at, bits_at}
 
 -- the value of a step that did not fail
 pub bind_ok : {A B : Type 0} (r : Result A PartFault) (f : A → Result B PartFault) (y : B) → (r >>= f) ≡ Ok y → (x : A) × (r ≡ Ok x) × (f x ≡ Ok y)
@@ -46,28 +47,6 @@ pub Takes-then : (a x b y c : List ℕ) → Takes a x b → Takes b y c → Take
 Takes-then a x b y c p q = record { parts = p.parts ∙ ap (λ (t : List ℕ). x ++ t) q.parts ∙ sym (append_assoc x y c); rest_fits = q.rest_fits }
 
 -- ---- numbers
-
-pub record IsWide (w : Width) (limit : ℕ) : Type 0 where
-  pub len : (n : ℕ) → length (to_be_bytes w n) ≡ byte_len w
-  pub back : (bytes : List ℕ) → length bytes ≡ byte_len w → IsBytes bytes → to_be_bytes w (from_be_bytes w bytes) ≡ bytes
-  pub again : (n : ℕ) → n < limit → from_be_bytes w (to_be_bytes w n) ≡ n
-  pub below : (bytes : List ℕ) → IsBytes bytes → from_be_bytes w bytes < limit
-
-pub wide32 : IsWide w32 (2 ^ 32)
-wide32 = record {
-  len = λ n. refl;
-  back = λ bytes len fits. be_bytes_4 bytes _ len fits refl;
-  again = λ n lt. from_be_bytes-to_be_bytes_4 n lt;
-  below = λ bytes fits. omega (arith, fits 0, fits 1, fits 2, fits 3);
-}
-
-pub wide64 : IsWide w64 (2 ^ 64)
-wide64 = record {
-  len = λ n. refl;
-  back = λ bytes len fits. be_bytes_8 bytes _ len fits refl;
-  again = λ n lt. from_be_bytes-to_be_bytes_8 n lt;
-  below = λ bytes fits. omega (arith, fits 0, fits 1, fits 2, fits 3, fits 4, fits 5, fits 6, fits 7);
-}
 
 module _ (total : ℕ) where
   pub number_takes : (w : Width) (limit : ℕ) (wide : IsWide w limit) (bytes : List ℕ) (n : ℕ) (rest : List ℕ) → IsBytes bytes → number_at w total bytes ≡ Ok (n, rest) → Takes bytes (to_be_bytes w n) rest × (n < limit)

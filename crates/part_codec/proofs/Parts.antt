@@ -12,10 +12,12 @@ use Rattle.update_core.specs.declared.updates.Update.{Update}
 use Rattle.part_codec.specs.declared.part_faults.PartFault.{PartFault}
 use Rattle.part_codec.specs.declared.part_faults.PartFault.TheVariants as faults
 use Rattle.part_codec.specs.Parts.{row_bytes, spelling, NonZero, Fits, IsPart, Part}
-use Rattle.part_codec.specs.Reading.{◌>>=◌, Gives, place, number_at, magic_at, form_at, count_at, datum_at, bits_at, fields_at, follows, row_at, rows_at, all_of}
+use Rattle.byte_core.specs.Reading.{place}
+use Rattle.part_codec.specs.Reading.{◌>>=◌, Gives, number_at, magic_at, form_at, count_at, datum_at, bits_at, fields_at, follows, row_at, rows_at, all_of}
 use Rattle.part_codec.proofs.Rising.{RisesAfter, all_rise, each_rises}
-use Rattle.store_core.specs.ByteLists.{IsBytes}
-use Rattle.part_codec.proofs.Fields.{bind_ok, guard_passed, ok_is, Takes, Takes-then, wide64, number_takes, number_again, magic_takes, magic_again, form_takes, form_again, count_takes, count_again, datum_takes, datum_again, bits_takes, bits_again}
+use Rattle.byte_core.specs.ByteLists.{IsBytes}
+use Rattle.byte_core.proofs.Wide.{wide64}
+use Rattle.part_codec.proofs.Fields.{bind_ok, guard_passed, ok_is, Takes, Takes-then, number_takes, number_again, magic_takes, magic_again, form_takes, form_again, count_takes, count_again, datum_takes, datum_again, bits_takes, bits_again}
 
 -- ---- differences
 

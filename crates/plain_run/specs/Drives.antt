@@ -4,7 +4,7 @@ use Rattle.update_core.specs.declared.updates.Update.{Update}
 use Rattle.store_core.specs.declared.shards.ShardId.{ShardId}
 use Rattle.store_core.specs.declared.entries.Entry.{Entry}
 use Rattle.store_core.specs.Stores.{Stored}
-use Rattle.state_core.specs.VersionReading.{most}
+use Rattle.version_codec.specs.Reading.{most}
 use Rattle.machine_core.specs.Machines.{Words}
 use Rattle.driving.specs.Drives.{Answered, Scanned}
 use Rattle.plain_run.specs.declared.session_faults.SessionFault.{SessionFault}

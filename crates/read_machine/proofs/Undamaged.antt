@@ -12,7 +12,7 @@ use Rattle.update_core.specs.declared.updates.Update.{Update}
 use Rattle.update_core.specs.Updates.{weight_of}
 use Rattle.part_codec.specs.declared.part_faults.PartFault.{PartFault}
 use Rattle.part_codec.specs.Reading.{all_of}
-use Rattle.store_core.specs.ByteLists.{IsBytes}
+use Rattle.byte_core.specs.ByteLists.{IsBytes}
 use Rattle.store_core.specs.declared.shards.ShardId.{ShardId}
 use Rattle.store_core.specs.declared.part_keys.PartKey.{PartKey}
 use Rattle.store_core.specs.declared.calls.Call.{Call}

@@ -3,7 +3,7 @@ use Rattle.std.specs.Prelude.{⊤, ◌≡◌, ◌≢◌, ◌⊎◌, ℕ, ◌≤�
 use Rattle.std.specs.Prelude.{if◌then◌else◌, is_some, ◌+◌, min, Option, Some, None, IfSome, IsSome, []}
 use Rattle.store_core.specs.declared.shards.ShardId.{ShardId}
 use Rattle.store_core.specs.Histories.{History}
-use Rattle.state_core.specs.VersionReading.{most}
+use Rattle.version_codec.specs.Reading.{most}
 use Rattle.state_core.specs.declared.transitions.Transition.TheVariants.{Init}
 use Rattle.history_core.specs.declared.asked.Asked.{Asked}
 use Rattle.history_core.specs.declared.asked.Asked.TheVariants as asks

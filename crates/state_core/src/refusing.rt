@@ -254,8 +254,8 @@ impl State {
         }
     }
 
-    // Whether the transition keeps the rules of its shape.
-    pub(crate) fn is_shaped(&self, step: &Transition) -> bool
+    /// Whether the transition keeps the rules of its shape.
+    pub fn is_shaped(&self, step: &Transition) -> bool
         ensures { result ≡ is_shaped self.now step.now }
     {
         match step {
