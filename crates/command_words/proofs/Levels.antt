@@ -58,6 +58,19 @@ Needed options uses = AllByRecursion (λ o. o.1 ≡ true → is_some (value_of o
 abbrev lacks_one : Options → List Use → Bool
 lacks_one options uses = list_any (λ a. a.required && not (is_given a.id (map row uses))) (rules options)
 
+needed_from : (options : Options) (uses : List Use) → lacks_one options uses ≡ false → Needed options uses
+needed_from [] uses h = tt
+needed_from (o ∷ options) uses h =
+    let parts = or_parts (o.1 && not (is_given o.0 (map row uses))) (lacks_one options uses) h in (
+      (λ needs. sym (given_is o.0 uses) ∙ go (is_given o.0 (map row uses)) (ap (λ b. b && not (is_given o.0 (map row uses))) (sym needs)
+          ∙ parts.0)),
+      needed_from options uses parts.1,
+    )
+  where
+    go : (b : Bool) → not b ≡ false → b ≡ true
+    go true e = refl
+    go false e = absurd (true≢false e)
+
 needed_to : (options : Options) (uses : List Use) → Needed options uses → lacks_one options uses ≡ false
 needed_to [] uses h = refl
 needed_to (o ∷ options) uses h = or_from (o.1 && not (is_given o.0 (map row uses))) (lacks_one options uses) (go o.1 h.0)

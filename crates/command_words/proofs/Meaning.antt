@@ -126,6 +126,10 @@ uuid_dull (x ∷ xs) id e = not_dash x (λ is.
     (dash_parsed xs) in
     let bad : Some id ≡ None = e ∙ none in cc)
 
+shard_dull : (d : ℕ) (value : Option Text) (id : ℕ) → Some id ≡ shard_in d value → (v : Text) → value ≡ Some v → is_dull v ≡ true
+shard_dull d None id e v is = cc
+shard_dull d (Some t) id e v is = let same : t ≡ v = cc in subst (λ x. is_dull x ≡ true) same (uuid_dull t id e)
+
 count_dull : (value : Option Text) (n : ℕ) → IsCount 1 16 value n → (v : Text) → value ≡ Some v → is_dull v ≡ true
 count_dull value n count v is =
     let both : Some (decimal n) ≡ Some v = sym count.0 ∙ is in

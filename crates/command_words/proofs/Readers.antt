@@ -35,6 +35,9 @@ no_number {E} t e h n small is =
     let bad : ◌≡◌ {A = Result ℕ E} (Err e) (Ok n) = parse-decimal 64 n t (Err e) small small is h in
     true≢false (sym (ap is_right bad))
 
+reprinted : (f t : Text) (v : ℕ) → f ≡ decimal v → true ≡ not (bytes_eq f t) → t ≡ decimal v → ⊥
+reprinted f t v f_is h t_is = true≢false (h ∙ ap not ((bytes_eq-Decides f t).1 (f_is ∙ sym t_is)))
+
 pub other_number : (f t : Text) (v : ℕ) → ParsesUnsigned 64 10 t (the_ok {E = ℕ} v) → f ≡ decimal v → true ≡ not (bytes_eq f t) → (n : ℕ)
     → n < 2 ^ 64 → t ≡ decimal n → ⊥
 unfolding value_or

@@ -23,6 +23,16 @@ use Rattle.command_words.proofs.Walks.{unknown_refuses, unsettled, use_was_new, 
 
 -- ---- a word of an option
 
+cut_at_equals : (t : Text) → has_byte 61 t ≡ true → t ≡ before_first (λ x. x == 61) t ++ 61 ∷ after_first (λ x. x == 61) t
+cut_at_equals t h = ⊎_elim
+    (λ within. split_at_first (λ x. x == 61) t 0 within ∙ ap (λ x. before_first (λ x. x == 61) t ++ x ∷ after_first (λ x. x == 61) t)
+    (eqb-true _ 61 (passes_at_first (λ x. x == 61) t 0 within)))
+    (λ past.
+    let none : list_any (λ x. x == 61) t ≡ false =
+    list_any_none (λ x. x == 61) t (λ k d l. fails_before_first (λ x. x == 61) t k d (omega arith)) in
+    absurd (true≢false (sym h ∙ none)))
+    (cases_lt (position_or_len (λ x. x == 61) t) (length t))
+
 not_cut : (t : Text) → has_byte 61 t ≡ false → before_first (λ x. x == 61) t ≡ t
 not_cut t h = ⊎_elim
     (λ within. absurd (true≢false

@@ -130,6 +130,14 @@ module _ (table : Commands) where
     pub named_fault : built_fault (whole table) nothing_held (w ∷ ws) ≡ command_fault e ws
     named_fault = ap (λ k. or_else k (after_walk (walk [] names nothing_held (w ∷ ws)))) walks ∙ (ap after_walk walk_is ∙ ends)
 
+  -- a first word that is no command's
+  unnamed_turn : (w : Text) → bytes_eq w dashes ≡ false → command_named w table ≡ None → turn_fault top names (idle_at [] None) w ≡ [] → ⊥
+  unnamed_turn w dull unnamed h = long (long_of w) refl
+    where
+      first : word_fault top names false idle w nothing_held ≡ []
+      first = (both_pass (word_fault top names false idle w nothing_held)
+          (step_fault top 1 (word_met [] names false idle 1 w nothing_held).0 (word_met [] names false idle 1 w nothing_held).1) h).0
+
       short : long_of w ≡ None → (o : Option Text) → short_of w ≡ o → ⊥
       short none None is = let bad : kind.UnknownArgument ∷ kind.InvalidSubcommand ∷ [] ≡ [] =
           rw (named_label w table, unnamed, dull, none, is) at h in absurd (cc)

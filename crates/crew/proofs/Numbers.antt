@@ -44,6 +44,9 @@ not_past a b h = grind (arith, nat_tests)
 beyond : (a b : ℕ) → nat_lt a b ≡ false → (a == b) ≡ false → nat_le a b ≡ false
 beyond a b h g = grind (arith, nat_tests)
 
+beyond_next : (a b : ℕ) → nat_lt a b ≡ false → (a == b) ≡ false → nat_le (a + 1) b ≡ false
+beyond_next a b h g = grind (arith, nat_tests)
+
 beyond_none : (a b : ℕ) → nat_lt a b ≡ false → (a == b) ≡ false → (a == 0) ≡ false
 beyond_none a b h g = grind (arith, nat_tests)
 

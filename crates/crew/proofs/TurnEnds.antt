@@ -39,6 +39,11 @@ answers s (calls.Cas d expected bytes) e = elim (bool_cases (same_number expecte
   | inr t ↦ (let bad = rw t at e in cc)
 ]
 
+failed_by : (s : Stored) (c : Call) (o : Outcome) → reply_by s c o ≡ replies.Failed → o ≢ Took
+failed_by s c Took e = λ h. answers s c e
+failed_by s c FailedTook e = λ h. cc
+failed_by s c FailedLost e = λ h. cc
+
 few_none : (client : ℕ) (front : Option History) → MakesFew client front front
 few_none client None = tt
 few_none client (Some h) = ([], ap (λ (es : List Entry). Some (of_entries h.start es)) (sym (append-nil h.trail)), omega arith)

@@ -12,6 +12,9 @@ use borrow.Author.Tests.{eqb-false, eqb-true}
 abbrev pub Lacks : ℕ → List ℕ → Type 0
 Lacks byte text = AllByRecursion (λ x. x ≢ byte) text
 
+lacks_by_index : (byte : ℕ) (text : List ℕ) → ((k : ℕ) → k < length text → eqb (get_or text k 0) byte ≡ false) → Lacks byte text
+lacks_by_index byte text h = recursion_from_All (λ x. x ≢ byte) text (All-from_get_or (λ x. x ≢ byte) text 0 (λ k l. eqb-false (get_or text k 0) byte (h k l)))
+
 pub cut_here : (byte : ℕ) (text : List ℕ) (k : ℕ) → position (λ x. eqb x byte) text ≡ Some k → text ≡ take k text ++ byte ∷ drop (k + 1) text
 cut_here byte text k h =
     let at = position-Some (λ x. eqb x byte) text k 0 h in

@@ -171,6 +171,27 @@ floor_by top n (m ∷ ms) (inr p) =
     let le = floor_by top n ms p in
     elim (bool_cases (is_writer m.kind)) [ inl e ↦ rw e le | inr e ↦ rw e (omega arith) ]
 
+-- a key of a version that is held later isn't absent before
+missing_back : (start : Stored) (shard : ShardId) (list : List Update) (gs es : List Entry) → StandsFor start shard list →
+    LawfulBack start (gs ++ es) → (n : ℕ) (s : ShardState) → StateIn shard (ever start shard es) n s → (k : PartKey) → Names s k →
+    (replay_back start es).blobs k ≡ None →
+    (number : ℕ) (last : ShardState) → LastIs (replay_back start (gs ++ es)) shard number last → ¬ IsHeld last n
+missing_back start shard list gs es st l n s is k named none number last now held =
+    let base = base_of start shard list st in
+    let older = lawful_of_older start gs es l in
+    let kept = kept_at start shard base.start_member base.begin es older n s is in
+    let here = presence start shard base.start_member base.begin base.present es older kept.number kept.last kept.newest kept.state in
+    let (newest, state) = last_ever start shard list st (gs ++ es) l number last now in
+    let all = kept_at start shard base.start_member base.begin (gs ++ es) l number last state in
+    let then = ever_behind start shard gs es kept.number kept.last kept.state.0 kept.state.1 in
+    let (low, high) = version_below shard (ever start shard (gs ++ es)) kept.number kept.last kept.state.0 then in
+    let end : number + 1 ≡ end_of (ever start shard (gs ++ es)) = newest in
+    let rises : floor kept.last ≤ floor last =
+    floors_rise shard (ever start shard (gs ++ es)) all.chain kept.number number (omega arith) kept.last last (kept.state.0, then) state in
+    let le : floor last ≤ n = floor_by last.number n last.members held in
+    let p = here.present n s k (omega arith) is named in
+    let there : (replay_back start es).blobs k ≡ Some p.0 = p.2 in cc
+
 -- later entries in two parts, newest first
 parted : (later mid rest trail : List Entry) → later ≡ mid ++ rest →
     reverse later ++ reverse trail ≡ reverse rest ++ (reverse mid ++ reverse trail)

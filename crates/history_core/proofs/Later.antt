@@ -37,6 +37,13 @@ Past s us = AllByRecursion (λ u. covers s.upper u.time ≡ false) us
 
 module _ (shard : ShardId) (old new : Track) (store store2 : Stored) (own : List Answered) (was is : ℕ → Type 0) (rows : List Update) (sound : Sound shard old) (moved : Moved shard old new store store2 own was is rows)
     (present : PresentOn old was store) (list : List Update) where
+  -- what an entry appends lies past the last upper before it
+  past_step : ContainedOn old store list → (number : ℕ) (last : ShardState) → EndsAt old number → HasState old number last → Past last rows
+  past_step older number last a h = go moved.move
+    where
+      none : rows ≡ [] → Past last rows
+      none e = subst (Past last) (sym e) tt
+
       go : Move shard old new store store2 own was is rows → Past last rows
       go (still q lives e) = none e
       go (cuts q below reached lives e) = none e

@@ -108,6 +108,19 @@ unchanged_law shard list h later st l n s k b at_n named there number last now h
     (subst (λ (q : Stored). StateAt q shard n s) before at_n) named (subst (λ (q : Stored). q.blobs k ≡ Some b) before there)
     number last (subst (λ (q : Stored). LastIs q shard number last) after now) held)
 
+floor_back : (start : Stored) (shard : ShardId) (list : List Update) (fs es : List Entry) → StandsFor start shard list → LawfulBack start (fs ++ es)
+    → (m n : ℕ) (s last : ShardState) → LastIs (replay_back start es) shard m s → LastIs (replay_back start (fs ++ es)) shard n last → floor s ≤ floor last
+floor_back start shard list fs es st l m n s last then now =
+    let base = base_of start shard list st in
+    let older = lawful_of_older start fs es l in
+    let then_ever = ever_behind start shard fs es m s then.1.0 (live_ever start shard list base es older m s then.1.0 then.1.1) in
+    let now_ever = live_ever start shard list base (fs ++ es) l n last now.1.0 now.1.1 in
+    let agree = agree_at start shard list base (fs ++ es) l in
+    let newest : n + 1 ≡ end_of (ever start shard (fs ++ es)) = now.0 ∙ agree.next in
+    let kept = kept_at start shard base.start_member base.begin (fs ++ es) l n last (now.1.0, now_ever) in
+    let (low, high) = version_below shard (ever start shard (fs ++ es)) m s then.1.0 then_ever in
+    floors_rise shard (ever start shard (fs ++ es)) kept.chain m n (omega arith) s last (then.1.0, then_ever) (now.1.0, now_ever)
+
 -- the floor of the last state never falls
 pub floor_law : FloorNeverFalls
 floor_law shard list h later st l m n s last then now =

@@ -142,6 +142,11 @@ last_number-committed log b = last_some (length log.versions) (committed log b) 
 pub empty_last : (log : Log) → log.versions ≡ [] → last_number log ≡ None
 empty_last log h = last_none log (ap length h)
 
+-- the last number is told by the end, and by whether there is a version
+same_last : (k n : ℕ) (a b : Log) → length a.versions ≡ suc k → length b.versions ≡ suc n → end_of a ≡ end_of b →
+    last_number a ≡ last_number b
+same_last k n a b x y e = last_some k a x ∙ ap Some (omega arith) ∙ sym (last_some n b y)
+
 pub last_number-truncated : (log : Log) (below : ℕ) → last_number (truncated log below) ≡ last_number log
 last_number-truncated log below = go (length log.versions) refl
   where

@@ -97,6 +97,26 @@ Given : List Update → Stored → ShardId → ℕ → (PlainCollection → Read
 Given list start shard member f a p =
     AtLast start shard (λ n s. (HasMember member s × (a ≡ f (collection_in (accepted shard list start p.before) s))) ⊎ ((¬ HasMember member s) × (a ≡ reads.Expired n))) p
 
+one_given : (list : List Update) (start : Stored) (shard : ShardId) (member : ℕ) (f : PlainCollection → ReadAnswer) (a b : ReadAnswer) (ps : List Placed) →
+    AtLastScan shard (Given list start shard member f a) ps → AtLastScan shard (Given list start shard member f b) ps → a ≡ b
+unfolding Given
+one_given list start shard member f a b ps h g = go (both_at shard (Given list start shard member f a) (Given list start shard member f b) ps h g)
+  where
+    go : (p : Placed) × Given list start shard member f a p × Given list start shard member f b p → a ≡ b
+    go (p, (n, s, last, is), (m, t, last2, is2)) =
+        let (same_number, same) = last_one shard ((store_at start p).logs shard) n m s t last.0 last.1 last2.0 last2.1 in
+        let us = accepted shard list start p.before in
+        elim is [
+          | inl x ↦ elim is2 [
+            | inl y ↦ x.1 ∙ ap (λ (q : ShardState). f (collection_in us q)) same ∙ sym y.1
+            | inr y ↦ absurd (y.0 (subst (HasMember member) same x.0))
+          ]
+          | inr x ↦ elim is2 [
+            | inl y ↦ absurd (x.0 (subst (HasMember member) (sym same) y.0))
+            | inr y ↦ x.1 ∙ ap reads.Expired same_number ∙ sym y.1
+          ]
+        ]
+
 -- a snapshot's answer as a reader's
 rows_of : SnapshotAnswer → ReadAnswer
 rows_of (content rows) = reads.Rows rows

@@ -81,6 +81,13 @@ kind_joined kind shard store (calls.Get k) outcome member t = absurd t
 kind_joined kind shard store (calls.Set k b) outcome member t = absurd t
 kind_joined kind shard store (calls.Delete k) outcome member t = absurd t
 
+-- a Cas that commits adds its bytes
+grown_is : (shard : ShardId) (now all : Log) (call : Call) (outcome : Outcome) (expected : Option ℕ) (bytes : List ℕ) →
+    call ≡ calls.Cas shard expected bytes → took_effect outcome ≡ true → commits now expected ≡ true →
+    grown shard now call outcome all ≡ committed all bytes
+grown_is shard now all call outcome expected bytes c t k =
+    subst (λ (q : Call). grown shard now q outcome all ≡ committed all bytes) (sym c) (rw (t, shard_same shard, k) refl)
+
 module _ (start : Stored) (shard : ShardId) (start_member : ℕ) (begin : Begins start shard start_member)
     (kind : Kind) (member c : ℕ) where
   abbrev Joined : List Entry → Type 0
@@ -216,6 +223,24 @@ kind_law shard list h st l kind c member joined number last is =
     (held_back h.start shard list (reverse h.trail) st (lawful_back h l) kind member c
     (subst (λ (own : List Answered). JoinedAs kind own shard member) (mine-newest h c) joined) number last
     (subst (λ (s : Stored). LastIs s shard number last) (replay-newest h.start h.trail) is)).0
+
+-- where a client joined a member there is a version
+there_back : (start : Stored) (shard : ShardId) (list : List Update) (es : List Entry) → StandsFor start shard list →
+    LawfulBack start es → (kind : Kind) (member c : ℕ) → JoinedAs kind (mine_back start es c) shard member →
+    (number : ℕ) × (last : ShardState) × LastIs (replay_back start es) shard number last
+there_back start shard list es st l kind member c j =
+    let base = base_of start shard list st in
+    let agree = agree_at start shard list base es l in
+    let (n, s, x, is, number) =
+    owned_version start shard base.begin.first es c member (joined_owns start shard base.start_member base.begin kind member c es j) in
+    let (low, high) = state_below shard (ever start shard es) n s (x, is) in
+    let next : end_of ((replay_back start es).logs shard) ≡ end_of (ever start shard es) = agree.next in
+    elim (stands_after start shard list base es l) [
+      | inl e ↦
+          let none : end_of ((replay_back start es).logs shard) ≡ 0 = ap end_of e.no_version in
+          absurd (omega arith)
+      | inr k ↦ (k.number, k.last, (k.newest, k.state))
+    ]
 
 pub there_law : OwnStateThere
 there_law shard list h st l kind c member joined =

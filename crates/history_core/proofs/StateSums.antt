@@ -39,6 +39,15 @@ never_past : (f : Option ℕ) → is_gt (frontier_cmp f f) ≡ false
 never_past None = refl
 never_past (Some u) = grind (arith, nat_tests)
 
+on_upwards : (f g h : Option ℕ) → is_gt (frontier_cmp f g) ≡ false → is_gt (frontier_cmp g h) ≡ false
+    → is_gt (frontier_cmp f h) ≡ false
+on_upwards None None h p q = q
+on_upwards None (Some g) h p q = cc
+on_upwards (Some f) None None p q = refl
+on_upwards (Some f) None (Some h) p q = cc
+on_upwards (Some f) (Some g) None p q = refl
+on_upwards (Some f) (Some g) (Some h) p q = grind (arith, nat_tests)
+
 ends_upwards : (f : Option ℕ) (bs : List Batch) → Follows f bs → is_gt (frontier_cmp f (upper_from f bs)) ≡ false
 ends_upwards f [] ok = never_past f
 ends_upwards f (b ∷ bs) ok =

@@ -76,6 +76,14 @@ covers_on shard t sound j m n le s s2 h g c =
       | inr e ↦ let none : covered a ≡ 0 = rw e refl in omega arith
     ]
 
+-- the batches go on to hold what they did
+batches_on : (store store2 : Stored) (bs : List Batch) (us : List Update) →
+    ((k : PartKey) → Among (λ q. q ≡ k) (keys_of bs) → store2.blobs k ≡ store.blobs k) →
+    AllByRecursion (BatchHolds store us) bs → AllByRecursion (BatchHolds store2 us) bs
+batches_on store store2 bs us keeps h =
+    each_both (λ b. AllByRecursion (λ k. store2.blobs k ≡ store.blobs k) b.parts) (BatchHolds store us) (BatchHolds store2 us) bs (λ b ks g. (g.0, part_rows_on store store2 b.parts g.0 ks g.1, g.2, g.3))
+    (each_part (λ k. store2.blobs k ≡ store.blobs k) bs (each_intro (λ k. store2.blobs k ≡ store.blobs k) (keys_of bs) keeps)) h
+
 module _ (shard : ShardId) (old new : Track) (store store2 : Stored) (own : List Answered) (was is : ℕ → Type 0) (rows : List Update) (sound : Sound shard old) (moved : Moved shard old new store store2 own was is rows)
     (present : PresentOn old was store) (list : List Update) (unstarted : old.next ≡ 0 → list ≡ []) where
   pub contained_step : ContainedOn old store list → ContainedOn new store2 (list ++ rows)

@@ -39,6 +39,9 @@ added_stored own (Renew member now) k h a = absurd a
 added_stored own (Advance member to) k h a = absurd a
 added_stored own (Expire now) k h a = absurd a
 
+present_by : (s t : Stored) (k : PartKey) → t.blobs k ≡ s.blobs k → IsPresent s k → IsPresent t k
+present_by s t k e h = (h.0, h.1, e ∙ h.2, h.3)
+
 -- from the floor on the versions are live, and their keys are there
 pub record PresentAt (t : Track) (live : ℕ → Type 0) (store : Stored) (number : ℕ) (last : ShardState) : Type 0 where
   pub live_on : (n : ℕ) → floor last ≤ n → n ≤ number → live n

@@ -28,6 +28,36 @@ pub record Agree (now all : Log) : Type 0 where
   pub old : (n : ℕ) (v : List ℕ) → version_at now n ≡ Some v → version_at all n ≡ Some v
   pub first : all.versions ≡ [] → all.first ≡ 0
 
+agree_committed : (now all : Log) (b : List ℕ) → Agree now all → Agree (committed now b) (committed all b)
+agree_committed now all b a = record {
+  next = end_of-committed now b ∙ ap (λ (j : ℕ). j + 1) a.next ∙ sym (end_of-committed all b);
+  last = last_number-committed now b ∙ ap Some a.next ∙ sym (last_number-committed all b);
+  old = λ n v h. elim (committed_either now b n v h) [
+    | inl g ↦ committed_old all b n v (a.old n v g)
+    | inr g ↦ subst (λ (m : ℕ). version_at (committed all b) m ≡ Some v) (sym (g.0 ∙ a.next)) (committed_new all b ∙ ap Some (sym g.1))
+  ];
+  first = λ e. absurd (not_empty all.versions e);
+}
+  where
+    not_empty : (vs : List (List ℕ)) → vs ++ b ∷ [] ≡ [] → ⊥
+    not_empty [] e = cc
+    not_empty (v ∷ vs) e = cc
+
+agree_truncated : (now all : Log) (below : ℕ) → Agree now all → Agree (truncated now below) all
+agree_truncated now all below a = record {
+  next = end_of-truncated now below ∙ a.next;
+  last = last_number-truncated now below ∙ a.last;
+  old = λ n v h. a.old n v (truncated_old now below n v h);
+  first = a.first;
+}
+
+agree_step : (shard : ShardId) (before : Stored) (call : Call) (outcome : Outcome) (all : Log) →
+    Agree (before.logs shard) all → LogStep shard before call outcome →
+    Agree ((after_outcome before call outcome).logs shard) (grown shard (before.logs shard) call outcome all)
+agree_step shard before call outcome all a (idle q g) = rw (q, g all) a
+agree_step shard before call outcome all a (cuts below c q g) = rw (q, g all) (agree_truncated (before.logs shard) all below a)
+agree_step shard before call outcome all a (adds expected bytes c t k q g) = rw (q, g all) (agree_committed (before.logs shard) all bytes a)
+
 pub logs_agree : (start : Stored) (shard : ShardId) → ((start.logs shard).versions ≡ [] → (start.logs shard).first ≡ 0) →
     (es : List Entry) → Agree (live start shard es) (ever start shard es)
 logs_agree start shard z [] = record { next = refl; last = refl; old = λ n v h. h; first = z }

@@ -147,6 +147,11 @@ module _ (client : ℕ) (m new : Collector) (call : Call) (poll : Poll CollectAn
       scans : e.call ≡ calls.Scan m.shard 0
       scans = call_is client m new call poll list start e others es a c ∙ ap (λ (o : Option Sweep). call_after m.shard o) none
 
+reads_scan : (m : Collector) (call : Call) → m.sweep ≡ None → Some (call_after m.shard m.sweep) ≡ Some call → IsReading call
+reads_scan m call none is =
+    let same : call_after m.shard m.sweep ≡ call = cc in
+    subst IsReading (sym (ap (λ (o : Option Sweep). call_after m.shard o) none) ∙ same) tt
+
 pub keeps : Keeps collecting
 keeps = record {
   prepared_kept = λ old new p. ap kept p;

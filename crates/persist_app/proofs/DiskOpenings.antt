@@ -45,6 +45,10 @@ begins_none : (bytes : List ℕ) (s : Stored) → 0 ≡ length bytes → s ≡ e
 begins_none [] s len empty = empty
 begins_none (b ∷ bs) s len empty = absurd (grind arith)
 
+begins_some : (bytes : List ℕ) (s : Stored) (n : ℕ) → n ≡ length bytes → n ≢ 0 → Stands s bytes → Begins bytes s
+begins_some [] s n len some stands = absurd (some len)
+begins_some (b ∷ bs) s n len some stands = stands
+
 told_length : (old : Option DiskHistory) (n : ℕ) → HasLength old n → ForSome old (λ h. n ≡ length h.now.bytes)
 told_length None n len h is = absurd cc
 told_length (Some k) n len h is = len ∙ ap (λ (d : DiskHistory). length d.now.bytes) (history_is k h is)

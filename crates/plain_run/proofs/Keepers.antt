@@ -40,6 +40,19 @@ pub record SeesSame (reader : ℕ) (s t : ShardState) : Type 0 where
   pub own : (from : ℕ) → Stands reader (ReadsFrom from) s.members → Stands reader (ReadsFrom from) t.members
   pub others : other_sinces reader t.members ≡ other_sinces reader s.members
 
+-- members that are changed but for their number, kind and since
+change_same : (n reader : ℕ) (f : Member → Member) (s : ShardState) (t : ShardState) → Alike f → ((m : Member) → (f m).since ≡ m.since) →
+    t.since ≡ s.since → t.upper ≡ s.upper → t.weight ≡ s.weight → t.members ≡ changed n f s.members → SeesSame reader s t
+change_same n reader f s t a since since_is upper weight members = record {
+  since = since_is;
+  upper = upper;
+  weight = weight;
+  own = λ from h. subst (λ (ms : List Member). Stands reader (ReadsFrom from) ms) (sym members)
+      (stands_changed n reader f (ReadsFrom from) (ReadsFrom from) s.members a (λ m p. p)
+      (λ m is p. (a.kind m ∙ p.0, since m ∙ p.1)) h);
+  others = ap (other_sinces reader) members ∙ others_same n reader f a since s.members;
+}
+
 -- a lease that begins again
 pub renew_same : (reader member now : ℕ) (s t : ShardState) → Applies s (Renew member now) t → SeesSame reader s t
 renew_same reader member now s t a =

@@ -70,6 +70,18 @@ settles_first : (all : List FeedLine) (shard : ShardId) (store : Stored) → Set
 settles_first [] shard store = λ h. (let bad : false ≡ true = h in cc)
 settles_first (line ∷ lines) shard store = λ h. h
 
+settled_last : (line : FeedLine) (shard : ShardId) (store : Stored) → is_compact line ≡ true → SettledBy line shard store → IsSettledIn store shard
+settled_last (Append a) shard store is by = (let bad : false ≡ true = is in cc)
+settled_last (Snapshot t) shard store is by = (let bad : false ≡ true = is in cc)
+settled_last (Listen t) shard store is by = (let bad : false ≡ true = is in cc)
+settled_last (Since to) shard store is by = (let bad : false ≡ true = is in cc)
+settled_last Compact shard store is by = by
+
+settles_next : (all : List FeedLine) (line : FeedLine) (rest : List FeedLine) (shard : ShardId) (store now : Stored) →
+    SettlesAtEnd all (line ∷ rest) shard store → SettledBy line shard now → SettlesAtEnd all rest shard now
+settles_next all line [] shard store now so by = λ h. settled_last line shard now (so h) by
+settles_next all line (next ∷ rest) shard store now so by = λ h. so h
+
 module _ (shard : ShardId) where
   -- ---- over a store
 

@@ -330,6 +330,43 @@ module _ {Q A : Type 0} (W : Questions Q A) (L : IsQuestion W) (start : Stored) 
 
   -- ---- the Scan after a missing part
 
+  -- where a named part was missing the member stands no more
+  never_stands : (k : ShardState) (x : PartKey) (w : SinceMissing W.kind client c start (others ++ es) x k) → Names k x →
+      (k2 : ShardState) →
+      LastIs (replay_back start (others ++ es)) c.loader.shard k2.number k2 → (m : Member) →
+      member_of c.member k2.members ≡ Some m → ⊥
+  never_stands k x w named k2 last m at =
+      let lawful_there : LawfulBack start (w.since.later ++ (w.since.scan ∷ w.since.before)) = subst
+      (LawfulBack start) w.since.split before in
+      let last_there = subst (λ (z : List Entry). LastIs (replay_back start z) c.loader.shard k2.number k2) w.since.split last in
+      let no_cas = each_map (λ y. y.client ≡ client → IsRead y.call) (λ y. y.client ≡ client →
+      is_cas y.call ≡ false) w.since.later
+      (λ y h mine. read_no_cas y.call (h mine)) w.since.reads in
+      gone_back start (w.since.scan ∷ w.since.before) w.since.later c.loader.shard list st lawful_there k.number k
+      (last_then client start c.loader.shard list st w.since.later w.since.scan w.since.before lawful_there k w.since.answered
+      w.since.last)
+      client c.member (joined_owns W.kind (mine_back start (w.since.scan ∷ w.since.before) client) c.loader.shard c.member
+      w.since.member) no_cas
+      w.rest w.mid w.parted x named w.missing k2.number k2 last_there
+      (found_stands c.member m (λ y. is_writer y.kind ≡ false) k2.members at (ap is_writer (takes k2 last m at) ∙ L.leased))
+
+  -- so that it has expired
+  check_legal : (vs : List Version) (stage : IsScanStage c.stage) (reply_is : rep ≡ replies.Versions vs) (poll : Poll A)
+      (k : ShardState)
+      (x : PartKey) → SinceMissing W.kind client c start (others ++ es) x k → Names k x → (k2 : ShardState) →
+      LastIs (replay_back start (others ++ es)) c.loader.shard k2.number k2 →
+      poll ≡ missing_poll W (holding (counted c) k2) q x → LegalOf poll
+  check_legal vs stage reply_is poll k x w named k2 last poll_is = go (member_of c.member k2.members) refl
+    where
+      go : (o : Option Member) → member_of c.member k2.members ≡ o → LegalOf poll
+      go None none =
+          let gone_now : is_gone c.member (Some k2) ≡ true = ap is_none none in
+          told poll (polls.Done (W.expired q k2.number))
+          (poll_is ∙ ap (λ (b : Bool). cond b (expired W (holding (counted c) k2) q) (polls.Damaged
+          (damages.Missing x))) gone_now)
+          (expired_legal vs stage reply_is k2 last none)
+      go (Some m) at = absurd (never_stands k x w named k2 last m at)
+
   -- ---- any reply
 
   pub read_legal : (new : Course) (poll : Poll A) → HowRead W (counted c) q rep new poll → LegalOf poll

@@ -90,6 +90,19 @@ module _ {Q A : Type 0} (W : Questions Q A) where
 
   -- ---- it is sound while it goes on
 
+  -- the parts that are got stay the question's
+  getting_as : (c : Course) (q : Q) (n : ℕ) (st : Stage) (g : Getting) (cached : Option ShardState) →
+      IsSomeAnd cached (IsGetting W c q) →
+      g.keys ≡ c.getting.keys → getting.IsOpen g → IsSomeAnd cached (IsGetting W
+      (record c { calls = n; stage = st; getting = g }) q)
+  getting_as c q n st g None h keys left = absurd h
+  getting_as c q n st g (Some s) h keys left = record {
+    found = h.found;
+    found_is = h.found_is;
+    keys = subst (λ (ks : List PartKey). W.look q s ≡ looks.Parts ks) (sym keys) h.keys;
+    left = left;
+  }
+
   getting_left : (c : Course) (q : Q) (cached : Option ShardState) → IsSomeAnd cached (IsGetting W c q) → getting.IsOpen c.getting
   getting_left c q None h = absurd h
   getting_left c q (Some s) h = h.left

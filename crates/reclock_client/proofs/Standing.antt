@@ -67,6 +67,17 @@ dead o c s e = subst (λ (x : Course). let y : Operator = record o { course = x 
   leaves = s.leaves;
 })
 
+-- all machines rest
+resting : (o : Operator) → AreSound o.remap o.data_shard o.remap_writer o.reader o.data_writer o.looker → IsCourse o.course →
+    IdleBy o None true → IsSound o
+resting o m c rest = record {
+  machines = m;
+  course = c;
+  rest = others o (part_of o.course.step) rest;
+  idle = idle_of o o.course.errand o.course.joined rest;
+  leaves = rests_leave o.reader o.moment o.lease (o.remap_writer.member ≡ None) rest.1;
+}
+
 module _ (o : Operator) (s : IsSound o) (busy : IsSome o.course.errand) where
   -- ---- a command begins, or goes on
 

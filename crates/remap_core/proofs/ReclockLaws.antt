@@ -10,6 +10,12 @@ use Rattle.remap_core.specs.declared.source_rows.SourceRow.{SourceRow}
 use Rattle.remap_core.specs.Bound.{bind}
 use Rattle.remap_core.specs.Reclocking.{update_of, bound, weight_of_rows}
 
+weight_one : (r : SourceRow) (s : ℕ) (t : Option ℕ) (us : List Update) (n : ℕ) → weight_of us ≤ n
+    → weight_of (update_of r s t ++ us) ≤ unsigned_abs r.diff + n
+weight_one r s None us n h = omega arith
+weight_one r s (Some t) us n h =
+    omega (arith, sum_by-cons (λ (u : Update). unsigned_abs u.diff) (record { datum = r.datum; time = max t s; diff = r.diff }) us)
+
 pub weight_of-bound : (rs : List SourceRow) (bs : List (ℕ × List ℕ)) (s : ℕ) → weight_of (bound rs bs s) ≤ weight_of_rows rs
 unfolding bound
 weight_of-bound [] bs s = omega arith

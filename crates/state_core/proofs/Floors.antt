@@ -32,6 +32,9 @@ floor_top top (m ∷ ms) =
 least_falls : (top : ℕ) (m : Member) (ms : List Member) → least_hold top (m ∷ ms) ≤ least_hold top ms
 least_falls top m ms = elim (bool_cases (is_writer m.kind)) [ inl e ↦ rw e (omega arith) | inr e ↦ rw e (omega arith) ]
 
+least_of_head : (top : ℕ) (m : Member) (ms : List Member) → Holds (least_hold top (m ∷ ms)) m
+least_of_head top m ms e = rw e (omega arith)
+
 floor_holds : (top : ℕ) (ms : List Member) → AllByRecursion (Holds (least_hold top ms)) ms
 floor_holds top [] = tt
 floor_holds top (m ∷ ms) = (

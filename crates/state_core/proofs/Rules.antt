@@ -91,6 +91,10 @@ one_stands k P (m ∷ ms) h (inr s) =
 abbrev Low : ℕ → Member → Type 0
 Low since m = is_reader m.kind ≡ true → since ≤ m.since
 
+or_least-is : (o : Option ℕ) (n since : ℕ) → SinceIs (or_least o n) since → (since ≤ n) × ((m : ℕ) → o ≡ Some m → since ≤ m)
+or_least-is None n since h = (let e : since ≡ n = h in omega arith, λ m e. cc)
+or_least-is (Some k) n since h = (let e : since ≡ min k n = h in omega arith, λ m q. let e : since ≡ min k n = h in let e2 : k ≡ m = cc in omega arith)
+
 -- below the least since is below each
 low_all : (ms : List Member) (since : ℕ) → ((m : ℕ) → least_since ms ≡ Some m → since ≤ m) → AllByRecursion (Low since) ms
 low_all [] since h = tt

@@ -48,6 +48,23 @@ same_kept s x v n f same none h =
       | inr p ↦ stayed w a (ap (λ (u : Member). u.number) p.1) (ap (λ (u : Member). u.token) p.1) (λ t. none v.number t)
     ]
 
+-- a step that spends a token of one member
+spent_kept : (s : ShardState) (x : Transition) (v : Member) (member token : ℕ) (f : Member → Member) (P : Member → Type 0) → IsState s → ((w : Member) → ((f w).number ≡ w.number) × ((f w).token ≡ token)) →
+    ((m t : ℕ) → (member ≡ m) × (token ≡ t) → Spends x m t) → ((m t : ℕ) → Spends x m t → (member ≡ m) × (token ≡ t)) → Stands member (λ w. P w × (w.token < token)) s.members → Among (λ u. u ≡ v) (changed member f s.members) → After s x v
+spent_kept s x v member token f P r same to of st h =
+    let (w, a, b) = among_changed member f v s.members h in
+    let each = one_stands member (λ w. P w × (w.token < token)) s.members (rise_of s.members r.rising) st in
+    elim b [
+      | inl p ↦
+          let number : w.number ≡ v.number = sym (same w).0 ∙ ap (λ (u : Member). u.number) p.1 in
+          let tok : token ≡ v.token = sym (same w).1 ∙ ap (λ (u : Member). u.token) p.1 in
+          let low : w.token < token = (each_at (λ (u : Member). u.number ≡ member → P u × (u.token < token)) s.members w each a p.0).1 in
+          spent w a number (omega arith) (to v.number v.token (sym p.0 ∙ number, tok)) (λ t q. sym tok ∙ (of v.number t q).1)
+      | inr p ↦
+          let number : w.number ≡ v.number = ap (λ (u : Member). u.number) p.1 in
+          stayed w a number (ap (λ (u : Member). u.token) p.1) (λ t q. p.0 (number ∙ sym (of v.number t q).0))
+    ]
+
 pub members_after : (s s2 : ShardState) (x : Transition) (v : Member) → IsState s → Applies s x s2 → Among (λ u. u ≡ v) s2.members → After s x v
 members_after s s2 Init v r a h = absurd a.makes
 members_after s s2 (Join kind now lease) v r a h =

@@ -37,6 +37,10 @@ mine_back-oldest s (x ∷ es) e c =
     ∙ ap (λ l. cond (x.client == c) (answered x (reply (replay_back (next s e) es) x) ∷ l) l) (mine_back-oldest s es e c)
     ∙ one_older (x.client == c) (answered x (reply (replay_back (next s e) es) x)) (mine_back (next s e) es c) (mine_back s (e ∷ []) c)
 
+one_turned : (b : Bool) (a : Answered) (xs : List Answered) → reverse (cond b (a ∷ xs) xs) ≡ reverse xs ++ cond b (a ∷ []) []
+one_turned true a xs = oldest-last a xs
+one_turned false a xs = sym (append-nil (reverse xs))
+
 mine_from-newest : (s : Stored) (es : List Entry) (c : ℕ) → reverse (mine_from s es c) ≡ mine_back s (reverse es) c
 mine_from-newest s [] c = refl
 mine_from-newest s (e ∷ es) c =

@@ -42,6 +42,12 @@ key_under shard member token i zero (q ∷ qs) k h e =
     (ap (λ (j : PartKey). j.shard) is, ap (λ (j : PartKey). j.member) is, ap (λ (j : PartKey). j.token) is)
 key_under shard member token i (suc n) (q ∷ qs) k h e = key_under shard member token (suc i) n qs k h.1 e
 
+-- where nothing was set under a token, no Set of its keys has other bytes
+unset_as : (shard : ShardId) (member token : ℕ) (s : Setting) (call : Call) → AreKeys shard member token 0 s.keys →
+    (¬ IsSetUnder shard member token call) → SetsAs s call
+unset_as shard member token s (calls.Set k b) keys none = λ i e. absurd (none (key_under shard member token 0 i s.keys k keys e))
+unset_as shard member token s other keys none = tt
+
 all_unset : (shard : ShardId) (member token : ℕ) (s : Setting) (own : List Answered) → AreKeys shard member token 0 s.keys →
     (¬ Among (λ o. UsesToken shard member token o.entry.call) own) → AllByRecursion (λ o. SetsAs s o.entry.call) own
 all_unset shard member token s [] keys none = tt

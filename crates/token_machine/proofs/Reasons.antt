@@ -36,6 +36,31 @@ pub record TokenThere (s : ShardState) (member token last : ℕ) : Type 0 where
   pub reached : token ≤ last
 
 module _ (s : ShardState) (member token last : ℕ) where
+  found_there : (fits : Kind → Bool) (rest : Member → Option Refusal) → ((m : Member) → ¬
+      (rest m ≡ Some (refusals.TokenOld last))) →
+      of_member (member_of member s.members) fits (λ m. cond (leb token m.token) (Some (refusals.TokenOld m.token))
+      (rest m)) ≡ Some (refusals.TokenOld last) → TokenThere s member token last
+  found_there fits rest never h = go (member_of member s.members) refl h
+    where
+      go : (o : Option Member) → member_of member s.members ≡ o → of_member o fits
+          (λ m. cond (leb token m.token) (Some (refusals.TokenOld m.token)) (rest m)) ≡ Some (refusals.TokenOld last) →
+          TokenThere s member token last
+      go None e g = absurd (let bad : Some refusals.NoMember ≡ Some (refusals.TokenOld last) = g in cc)
+      go (Some q) e g = elim (bool_cases (fits q.kind)) [
+        | inl f ↦ elim (bool_cases (leb token q.token)) [
+          | inl t ↦
+              let same : Some (refusals.TokenOld q.token) ≡ Some (refusals.TokenOld last) = rw (f, t) at g in
+              let is : q.token ≡ last = cc in
+              record {
+                stands = found_stands (λ m. m.token ≡ last) member s.members q e is;
+                reached = subst
+                    (λ (n : ℕ). token ≤ n) is (leb-true token q.token t);
+              }
+          | inr t ↦ absurd (never q (rw (f, t) at g))
+        ]
+        | inr f ↦ absurd (let bad : Some refusals.NoMember ≡ Some (refusals.TokenOld last) = rw f at g in cc)
+      ]
+
   shaped : (x : Transition) → standing_refusal s x ≡ Some (refusals.TokenOld last) → refusal_by_kind s x ≡ Some
       (refusals.TokenOld last)
   shaped x h = elim (bool_cases (is_shaped s x)) [

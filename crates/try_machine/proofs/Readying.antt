@@ -26,6 +26,14 @@ use Rattle.try_machine.specs.Rules.{AsksSame, Rules}
 use Rattle.try_machine.specs.Tryers.{AskSame, HasLooked, IsReady, IsSound, SoundBy, asked_after, empty_answer, empty_by, empty_of}
 use Rattle.try_machine.specs.Tryers.{looked_asked}
 
+-- and where no state was seen none is ready after that, if none was before
+still_unready : (t new : Trying) → trying.Prepares t new → t.loader.cached ≡ None → trying.IsScanning t.next → trying.IsScanning new.next
+still_unready t new prepares none idle = go t.next idle prepares
+  where
+    on : (c : Option ShardState) → c ≡ None → trying.PreparesOn c t new → trying.IsScanning new.next
+    on None e is = subst (λ (z : Trying). trying.IsScanning z.next) (sym is) tt
+    on (Some s) e is = absurd (let bad : Some s ≡ None = e in cc)
+
     go : (n : Next) → trying.IsScanning n → trying.PreparesBy n t new → trying.IsScanning new.next
     go nexts.Attempt i p = on t.loader.cached none p
     go nexts.Scan i p = subst (λ (z : Trying). trying.IsScanning z.next) (sym p) idle

@@ -11,7 +11,8 @@ use Rattle.state_core.specs.declared.kinds.Kind.TheVariants.{Writer, Reader, Kee
 use Rattle.version_codec.specs.declared.version_faults.VersionFault.{VersionFault}
 use Rattle.version_codec.specs.declared.version_faults.VersionFault.TheVariants as faults
 use Rattle.byte_core.specs.Reading.{place}
-use Rattle.version_codec.specs.Reading.{◌>>=◌, byte_at, wide_at, number_at, limited_at, below_at, magic, magic_at, form_at, frontier_at, time_at, kind_at, kind_of, known_kind}
+use Rattle.byte_core.specs.declared.shorts.Short.{Short}
+use Rattle.version_codec.specs.Reading.{◌>>=◌, whole_at, byte_at, wide_at, number_at, limited_at, below_at, magic, magic_at, form_at, frontier_at, time_at, kind_at, kind_of, known_kind}
 use Rattle.version_codec.specs.Versions.{number_bytes, frontier_bytes, kind_byte, NumberFits, FrontierFits}
 use Rattle.state_core.proofs.ListLemmas.{bool_cases}
 
@@ -33,6 +34,11 @@ guard_ok false d x y e = (refl, cc)
 pub guard_passed : {A : Type 0} (b : Bool) (d : VersionFault) (x y : A) → cond b (Ok x) (Err d) ≡ Ok y → (b ≡ true) × (x ≡ y)
 guard_passed true d x y e = (refl, cc)
 guard_passed false d x y e = absurd cc
+
+-- a number that was read whole
+pub wide_ok : {A : Type 0} (b : Bool) (d : Short) (x y : A) → whole_at (cond b (Err d) (Ok x)) ≡ Ok y → (b ≡ false) × (x ≡ y)
+wide_ok true d x y e = absurd cc
+wide_ok false d x y e = (refl, cc)
 
 abbrev pub done : {A : Type 0} → A → Result A VersionFault
 done x = Ok x
@@ -73,7 +79,7 @@ front_is w limit wide bytes long = record {
 module _ (total : ℕ) where
   pub wide_took : (w : Width) (limit : ℕ) (wide : IsWide w limit) (bytes : List ℕ) (x : ℕ × List ℕ) → wide_at w total bytes ≡ Ok x → Took bytes (to_be_bytes w x.0) x.1 (x.0 < limit)
   wide_took w limit wide bytes x e =
-      let (short, is) = guard_ok (ltb (length bytes) (byte_len w)) _ (from_be_bytes w (take (byte_len w) bytes), drop (byte_len w) bytes) x e in
+      let (short, is) = wide_ok (ltb (length bytes) (byte_len w)) _ (from_be_bytes w (take (byte_len w) bytes), drop (byte_len w) bytes) x e in
       subst (λ (y : ℕ × List ℕ). Took bytes (to_be_bytes w y.0) y.1 (y.0 < limit)) is (front_is w limit wide bytes (ltb-false _ _ short))
 
   pub wide_again : (w : Width) (limit : ℕ) (wide : IsWide w limit) (n : ℕ) (rest : List ℕ) → n < limit → wide_at w total (to_be_bytes w n ++ rest) ≡ Ok (n, rest)

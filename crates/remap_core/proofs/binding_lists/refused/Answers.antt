@@ -3,6 +3,10 @@ use Rattle.std.specs.Prelude.{IfNone}
 use Rattle.remap_core.proofs.BoundLaws.{all_before}
 use Rattle.remap_core.proofs.binding_lists.refused.Goals as goal
 
+none_weaker : {A P Q : Type 0} (r : Option A) → (P → Q) → IfNone r P → IfNone r Q
+none_weaker None f h = f h
+none_weaker (Some x) f h = tt
+
 pub returns-in-Some-clause-none : goal.returns-in-Some-clause-none
 returns-in-Some-clause-none c =
     none_weaker c.refused_after.result
