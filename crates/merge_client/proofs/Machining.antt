@@ -13,7 +13,7 @@ use Rattle.store_core.specs.Ports.{Answered}
 use Rattle.store_core.specs.Newest.{mine_back}
 use Rattle.byte_core.specs.ByteLists.{IsBytes}
 use Rattle.state_core.specs.declared.kinds.Kind.TheVariants.{Keeper}
-use Rattle.version_codec.specs.Reading.{most}
+use Rattle.update_core.specs.Limits.{most}
 use Rattle.state_core.specs.declared.transitions.Transition.{Transition}
 use Rattle.state_core.specs.declared.transitions.Transition.TheVariants.{Join, Leave, Renew}
 use Rattle.history_core.specs.declared.asked.Asked.{Asked}

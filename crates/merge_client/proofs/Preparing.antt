@@ -17,7 +17,7 @@ use Rattle.state_core.specs.declared.transitions.Transition.TheVariants.{Init, L
 use Rattle.state_core.specs.Refusals.{follows, is_keeper, is_shaped}
 use Rattle.state_core.specs.States.{ShardState}
 use Rattle.state_core.specs.Steps.{acts_for}
-use Rattle.version_codec.specs.Reading.{most}
+use Rattle.update_core.specs.Limits.{most}
 use Rattle.state_core.proofs.ListLemmas.{each_map}
 use Rattle.version_codec.proofs.Facts.{version_in_shard, version_in_state}
 use Rattle.history_core.specs.declared.asked.Asked.{Asked}

@@ -41,7 +41,7 @@ byte_is_front total [] x h = absurd cc
 byte_is_front total (b ∷ rest) x h = ap (λ (y : ℕ × List ℕ). y.0 ∷ y.1) (fields.ok_is (b, rest) x h)
 
 differs : (n m : ℕ) → eqb n m ≡ false → n ≡ m → ⊥
-differs n m no same = absurd (grind (arith, nat_tests, no, same))
+differs n m unlike same = absurd (grind (arith, nat_tests, unlike, same))
 
 module _ (total : ℕ) where
   -- ---- numbers
@@ -57,7 +57,7 @@ module _ (total : ℕ) where
 
   -- ---- the head
 
-  magic_refused : (bytes : List ℕ) (e : PartFault) → IsBytes bytes → length bytes ≡ total → magic_at total bytes ≡ Err e → IsHeadRefused e bytes
+  pub magic_refused : (bytes : List ℕ) (e : PartFault) → IsBytes bytes → length bytes ≡ total → magic_at total bytes ≡ Err e → IsHeadRefused e bytes
   unfolding magic_at
   magic_refused bytes e fits all h =
       elim (bind_err (number_at w32 total bytes) (λ n. cond (eqb n.0 magic) (Ok n.1) (Err (faults.Magic (place total bytes)))) e h) [
@@ -69,12 +69,12 @@ module _ (total : ℕ) where
             let t = fields.number_takes total w32 (2 ^ 32) wide32 bytes n.0 n.1 fits is in
             let four : 4 ≤ length bytes = omega (arith, ap (λ (b : List ℕ). length b) t.0.parts, length-append (to_be_bytes w32 n.0) n.1, wide32.len n.0) in
             let again : (rest : List ℕ) → bytes ≡ letters ++ rest → n ≡ (magic, rest) = λ rest same.
-                fields.ok_is n (magic, rest) (sym is ∙ ap (number_at w32 total) same ∙ fields.number_again total w32 (2 ^ 32) wide32 magic rest (omega arith)) in
+            fields.ok_is n (magic, rest) (sym is ∙ ap (number_at w32 total) same ∙ fields.number_again total w32 (2 ^ 32) wide32 magic rest (omega arith)) in
             let other : (rest : List ℕ) → bytes ≢ letters ++ rest = λ rest same. differs n.0 magic g.0 (ap (λ (p : ℕ × List ℕ). p.0) (again rest same)) in
-            subst (λ (f : PartFault). IsHeadRefused f bytes) g.1 (omega (arith, all), four, other)
+            subst (λ (f : PartFault). IsHeadRefused f bytes) g.1 (omega (arith, all), (four, other))
       ]
 
-  form_refused : (bytes rest : List ℕ) (e : PartFault) → bytes ≡ letters ++ rest → length bytes ≡ total → form_at total rest ≡ Err e → IsHeadRefused e bytes
+  pub form_refused : (bytes rest : List ℕ) (e : PartFault) → bytes ≡ letters ++ rest → length bytes ≡ total → form_at total rest ≡ Err e → IsHeadRefused e bytes
   unfolding form_at
   form_refused bytes rest e front all h =
       elim (bind_err (byte_at total rest) (λ b. cond (eqb b.0 1) (Ok b.1) (Err (faults.Form (place total rest)))) e h) [
@@ -82,15 +82,15 @@ module _ (total : ℕ) where
             let s = byte_short rest e bad in
             let is : bytes ≡ letters = front ∙ ap (λ (r : List ℕ). letters ++ r) s.0 in
             subst (λ (f : PartFault). IsHeadRefused f bytes) s.1
-                (inr (inl (omega (arith, all, ap (λ (b : List ℕ). length b) is, ap (λ (b : List ℕ). length b) s.0), is)))
+            (inr (inl (omega (arith, all, ap (λ (b : List ℕ). length b) is, ap (λ (b : List ℕ). length b) s.0), is)))
         | inr (b, is, refuses) ↦
             let g = guard_failed (eqb b.0 1) (faults.Form (place total rest)) e b.1 refuses in
             let rest_is : rest ≡ b.0 ∷ b.1 = byte_is_front total rest b is in
             subst (λ (f : PartFault). IsHeadRefused f bytes) g.1
-                (omega (arith, all, ap (λ (x : List ℕ). length x) front), b.0, b.1, front ∙ ap (λ (r : List ℕ). letters ++ r) rest_is, differs b.0 1 g.0)
+            (omega (arith, all, ap (λ (x : List ℕ). length x) front), b.0, b.1, front ∙ ap (λ (r : List ℕ). letters ++ r) rest_is, differs b.0 1 g.0)
       ]
 
-  count_refused : (bytes rest : List ℕ) (e : PartFault) → IsBytes rest → bytes ≡ letters ++ 1 ∷ rest → length bytes ≡ total →
+  pub count_refused : (bytes rest : List ℕ) (e : PartFault) → IsBytes rest → bytes ≡ letters ++ 1 ∷ rest → length bytes ≡ total →
       count_at total rest ≡ Err e → IsHeadRefused e bytes
   unfolding count_at
   count_refused bytes rest e fits front all h =
@@ -103,7 +103,7 @@ module _ (total : ℕ) where
             let g = guard_err (ltb 4096 n.0) (faults.Size (place total rest)) e n refuses in
             let t = fields.number_takes total w32 (2 ^ 32) wide32 rest n.0 n.1 fits is in
             subst (λ (f : PartFault). IsHeadRefused f bytes) g.1
-                (omega (arith, all, long), n.0, n.1, front ∙ ap (λ (r : List ℕ). letters ++ 1 ∷ r) t.0.parts, t.1, ltb-true _ _ g.0)
+            (omega (arith, all, long), n.0, n.1, front ∙ ap (λ (r : List ℕ). letters ++ 1 ∷ r) t.0.parts, t.1, ltb-true _ _ g.0)
       ]
 
   -- ---- a row
@@ -120,7 +120,7 @@ module _ (total : ℕ) where
             let g = guard_err (eqb n.0 0) (faults.Size (place total rest)) e n refuses in
             let rest_is : rest ≡ n.0 ∷ n.1 = byte_is_front total rest n is in
             subst (λ (f : PartFault). IsRowRefused before (place total rest) f rest) g.1
-                (refl, n.1, rest_is ∙ ap (λ (b : ℕ). b ∷ n.1) (eqb-true _ _ g.0))
+            (refl, n.1, rest_is ∙ ap (λ (b : ℕ). b ∷ n.1) (eqb-true _ _ g.0))
       ]
 
   datum_refused : (before : Option Update) (rest : List ℕ) (e : PartFault) → IsBytes rest → length rest ≤ total → datum_at total rest ≡ Err e →
@@ -135,41 +135,41 @@ module _ (total : ℕ) where
             let less : length n.1 < n.0 = ltb-true _ _ g.0 in
             let long = ap (λ (x : List ℕ). length x) t.0.parts in
             subst (λ (f : PartFault). IsRowRefused before (place total rest) f rest) g.1
-                (inr (inl (omega (arith, within, long), n.0, n.1, t.0.parts, omega (arith, less), less)))
+            (inr (inl (omega (arith, within, long), n.0, n.1, t.0.parts, omega (arith, less), less)))
       ]
 
   -- ---- the time and the difference of a row
 
-  time_refused : (before : Option Update) (rest : List ℕ) (e : PartFault) (datum more : List ℕ) → length rest ≤ total → fields.IsDatum datum →
+  time_refused : (before : Option Update) (rest : List ℕ) (e : PartFault) (datum more : List ℕ) → length rest ≤ total → fields.IsDatum total datum →
       rest ≡ after_datum datum more → number_at w64 total more ≡ Err e → IsRowRefused before (place total rest) e rest
   time_refused before rest e datum more within fit is h =
       let s = number_short w64 more e h in
       let long = ap (λ (x : List ℕ). length x) is in
       subst (λ (f : PartFault). IsRowRefused before (place total rest) f rest) s.1
-          (inr (inr (inl (datum, more, (fit.some, fit.few), is, omega (arith, within, long, length-append datum more), s.0))))
+      (inr (inr (inl (datum, more, (fit.some, fit.few), is, omega (arith, within, long, length-append datum more), s.0))))
 
   bits_refused : (before : Option Update) (rest : List ℕ) (e : PartFault) (datum more : List ℕ) (time : ℕ) → IsBytes more → length rest ≤ total →
-      fields.IsDatum datum → time < 2 ^ 64 → rest ≡ after_time datum time more → bits_at total more ≡ Err e →
+      fields.IsDatum total datum → time < 2 ^ 64 → rest ≡ after_time datum time more → bits_at total more ≡ Err e →
       IsRowRefused before (place total rest) e rest
   unfolding bits_at
   bits_refused before rest e datum more time fits within fit less is h =
       let long = ap (λ (x : List ℕ). length x) is in
       let size : length rest ≡ 1 + (length datum + (8 + length more)) =
-          omega (arith, long, length-append datum (to_be_bytes w64 time ++ more), length-append (to_be_bytes w64 time) more, wide64.len time) in
+      omega (arith, long, length-append datum (to_be_bytes w64 time ++ more), length-append (to_be_bytes w64 time) more, wide64.len time) in
       elim (bind_err (number_at w64 total more) (λ n. cond (eqb n.0 0) (Err (faults.Zero (place total more))) (Ok n)) e h) [
         | inl bad ↦
             let s = number_short w64 more e bad in
             subst (λ (f : PartFault). IsRowRefused before (place total rest) f rest) s.1
-                (inr (inr (inr (datum, time, more, (fit.some, fit.few), less, is, omega (arith, within, size), s.0))))
+            (inr (inr (inr (datum, time, more, (fit.some, fit.few), less, is, omega (arith, within, size), s.0))))
         | inr (n, is_number, refuses) ↦
             let g = guard_err (eqb n.0 0) (faults.Zero (place total more)) e n refuses in
             let t = fields.number_takes total w64 (2 ^ 64) wide64 more n.0 n.1 fits is_number in
             let zeros : more ≡ to_be_bytes w64 0 ++ n.1 = t.0.parts ∙ ap (λ (k : ℕ). to_be_bytes w64 k ++ n.1) (eqb-true _ _ g.0) in
             subst (λ (f : PartFault). IsRowRefused before (place total rest) f rest) g.1
-                (datum, time, n.1, (fit.some, fit.few), less, is ∙ ap (after_time datum time) zeros, omega (arith, within, size))
+            (datum, time, n.1, (fit.some, fit.few), less, is ∙ ap (after_time datum time) zeros, omega (arith, within, size))
       ]
 
-  fields_refused : (before : Option Update) (rest : List ℕ) (e : PartFault) → IsBytes rest → length rest ≤ total → fields_at total rest ≡ Err e →
+  pub fields_refused : (before : Option Update) (rest : List ℕ) (e : PartFault) → IsBytes rest → length rest ≤ total → fields_at total rest ≡ Err e →
       IsRowRefused before (place total rest) e rest
   unfolding fields_at
   fields_refused before rest e fits within h =

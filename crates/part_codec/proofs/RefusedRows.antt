@@ -71,8 +71,13 @@ begins bytes count rows rest s = record { few = s.few; spelled = s.spelled; risi
 pub size : (bytes : List ℕ) (count : ℕ) (rows : List Update) (rest : List ℕ) →
     bytes ≡ letters ++ 1 ∷ (to_be_bytes w32 count ++ (flat_map row_bytes rows ++ rest)) → length bytes ≡ place_after rows + length rest
 size bytes count rows rest is =
-    omega (arith, ap (λ (x : List ℕ). length x) is, length-append (to_be_bytes w32 count) (flat_map row_bytes rows ++ rest), wide32.len count,
-        length-append (flat_map row_bytes rows) rest)
+    omega (
+      arith,
+      ap (λ (x : List ℕ). length x) is,
+      length-append (to_be_bytes w32 count) (flat_map row_bytes rows ++ rest),
+      wide32.len count,
+      length-append (flat_map row_bytes rows) rest,
+    )
 
 pub place_is : (bytes : List ℕ) (rows : List Update) (rest : List ℕ) → length bytes ≡ place_after rows + length rest → place (length bytes) rest ≡ place_after rows
 place_is bytes rows rest is = omega (arith, is)
@@ -127,7 +132,7 @@ rows_refused (suc n) bytes count rows rest e s fits all h =
           elim (bind_err (rows_at total n (Some u) first.1) (λ others. Ok (u ∷ others.0, others.1)) e next) [
             | inl bad ↦
                 rows_refused n bytes count (rows ++ u ∷ []) first.1 e more t.0.rest_fits (omega (arith, all, length-append rows (u ∷ [])))
-                    (ap (λ (b : Option Update). rows_at total n b first.1) (last_of-push rows u) ∙ bad)
+                (ap (λ (b : Option Update). rows_at total n b first.1) (last_of-push rows u) ∙ bad)
             | inr (others, is_others, done) ↦ absurd cc
           ]
     ]
@@ -135,8 +140,8 @@ rows_refused (suc n) bytes count rows rest e s fits all h =
 -- ---- all
 
 nothing_more : (xs : List ℕ) → eqb (length xs) 0 ≡ false → xs ≢ []
-nothing_more [] no is = absurd cc
-nothing_more (x ∷ xs) no is = absurd cc
+nothing_more [] some is = absurd cc
+nothing_more (x ∷ xs) some is = absurd cc
 
 pub refused : (bytes : List ℕ) (e : PartFault) → IsBytes bytes → all_of bytes ≡ Err e → IsRefused e bytes
 unfolding all_of
@@ -159,7 +164,7 @@ refused bytes e fits h =
                       let to_c : bytes ≡ letters ++ 1 ∷ (to_be_bytes w32 c.0 ++ c.1) = to_b ∙ ap (λ (x : List ℕ). letters ++ 1 ∷ x) t2.0.parts in
                       let none : SoFar bytes c.0 [] c.1 = record { few = t2.1; spelled = to_c; rises = tt; nonzero = tt; fits = tt } in
                       elim (bind_err (rows_at n c.0 None c.1) end e next_c) [
-                        | inl bad ↦ inr (inl (rows_refused c.0 bytes c.0 [] c.1 e none t2.0.rest_fits refl bad))
+                        | inl bad ↦ inr (inl (rows_refused c.0 bytes c.0 [] c.1 e none t2.0.rest_fits (omega arith) bad))
                         | inr (d, is_d, last) ↦
                             let g = guard_failed (eqb (length d.1) 0) (faults.Trailing (place n d.1)) e d.0 last in
                             let t3 = parts.rows_take n c.0 None c.1 d t2.0.rest_fits is_d in

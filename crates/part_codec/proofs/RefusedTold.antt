@@ -1,5 +1,6 @@
 -- Bytes that have a fault are refused so.
 use Rattle.std.proofs.Common.{◌≡◌, ◌≢◌, ◌⊎◌, ℕ, zero, suc, ◌+◌, ◌-◌, ◌^◌, ◌<◌, ◌≤◌, Bool, true, false, cond, eqb, ltb, pos, Option, Some, None, List, [], ◌∷◌, ◌++◌, length, take, drop, Result, Ok, Err, refl, sym, ap, subst, ◌∙◌, append_assoc, arith, inl, inr}
+use Rattle.std.specs.Prelude.{IfErr}
 use Rattle.std.specs.Int.{Width, w32, w64, byte_len, to_be_bytes, from_be_bytes}
 use Rattle.std.specs.List.{flat_map, AllByRecursion}
 use Rattle.std.proofs.lemmas.Bool.{lt-ltb, le-ltb}
@@ -14,7 +15,7 @@ use Rattle.byte_core.proofs.Wide.{wide32, wide64}
 use Rattle.part_codec.specs.declared.part_faults.PartFault.{PartFault}
 use Rattle.part_codec.specs.declared.part_faults.PartFault.TheVariants as faults
 use Rattle.part_codec.specs.Parts.{row_bytes, Fits, NonZero, IsPart, Part}
-use Rattle.part_codec.specs.Reading.{◌>>=◌, number_at, magic, magic_at, form_at, count_at, length_at, datum_at, bits_at, fields_at, follows, row_at, rows_at, all_of}
+use Rattle.part_codec.specs.Reading.{◌>>=◌, Gives, number_at, magic, magic_at, form_at, count_at, length_at, datum_at, bits_at, fields_at, follows, row_at, rows_at, all_of}
 use Rattle.part_codec.specs.Refusals.{letters, OtherLetters, IsHeadRefused, after_datum, after_time, IsRowRefused, IsRefused, Begins, HasBadRow, HasTrailing, place_after}
 use Rattle.part_codec.proofs.Fields as fields
 use Rattle.part_codec.proofs.Parts as parts
@@ -30,7 +31,7 @@ not_one n other = grind (arith, nat_tests, other)
 
 some_left : (xs : List ℕ) → xs ≢ [] → eqb (length xs) 0 ≡ false
 some_left [] some = absurd (some refl)
-some_left (x ∷ xs) some = refl
+some_left (x ∷ xs) some = not_zero (length (x ∷ xs)) (omega arith)
 
 module _ (total : ℕ) where
   -- too few bytes for a number
@@ -99,15 +100,15 @@ module _ (total : ℕ) where
   row_told before rest (faults.Short p) within (inr (inl (at, len, more, is, some, less))) =
       ap (row_at total before) is
       ∙ moved (row_at total before (len ∷ more)) faults.Short p (place total more) (short_datum before len more some less)
-          (omega (arith, at, within, ap (λ (x : List ℕ). length x) is))
+      (omega (arith, at, within, ap (λ (x : List ℕ). length x) is))
   row_told before rest (faults.Short p) within (inr (inr (inl (datum, more, d, is, at, less)))) =
       ap (row_at total before) is
       ∙ moved (row_at total before (after_datum datum more)) faults.Short p (place total more) (short_time before datum more d.0 less)
-          (omega (arith, at, within, long_datum rest datum more is))
+      (omega (arith, at, within, long_datum rest datum more is))
   row_told before rest (faults.Short p) within (inr (inr (inr (datum, time, more, d, fits, is, at, less)))) =
       ap (row_at total before) is
       ∙ moved (row_at total before (after_time datum time more)) faults.Short p (place total more) (short_bits before datum time more d.0 fits less)
-          (omega (arith, at, within, long_time rest datum more time is))
+      (omega (arith, at, within, long_time rest datum more time is))
   row_told before rest (faults.Size p) within (at, more, is) =
       ap (row_at total before) is
       ∙ moved (row_at total before (0 ∷ more)) faults.Size p (place total (0 ∷ more)) (zero_length before more) (sym (at ∙ ap (place total) is))
@@ -115,11 +116,11 @@ module _ (total : ℕ) where
       let bits = to_be_bytes w64 0 ++ more in
       ap (row_at total before) is
       ∙ moved (row_at total before (after_time datum time bits)) faults.Zero p (place total bits) (zero_bits before datum time more d.0 fits)
-          (omega (arith, at, within, long_time rest datum bits time is))
+      (omega (arith, at, within, long_time rest datum bits time is))
   row_told before rest (faults.Order p) within (at, u, more, fits, some, is, below) =
       ap (row_at total before) is
       ∙ moved (row_at total before (row_bytes u ++ more)) faults.Order p (place total (row_bytes u ++ more)) (out_of_order before u more fits some below)
-          (sym (at ∙ ap (place total) is))
+      (sym (at ∙ ap (place total) is))
   row_told before rest (faults.Magic p) within bad = absurd bad
   row_told before rest (faults.Form p) within bad = absurd bad
   row_told before rest (faults.Trailing p) within bad = absurd bad
@@ -127,15 +128,24 @@ module _ (total : ℕ) where
 
   -- ---- rows, and then one at fault
 
+  -- so many rows, one more, and others
+  abbrev pub count_with : List Update → ℕ → ℕ
+  count_with [] n = suc n
+  count_with (u ∷ us) n = suc (count_with us n)
+
+  count_with_is : (us : List Update) (n : ℕ) → count_with us n ≡ suc (n + length us)
+  count_with_is [] n = omega arith
+  count_with_is (u ∷ us) n = omega (arith, count_with_is us n)
+
   rows_told : (rows : List Update) (before : Option Update) (n : ℕ) (rest : List ℕ) (e : PartFault) → AllByRecursion Fits rows → NonZero rows →
       RisesAfter before rows → row_at total (last_or before rows) rest ≡ Err e →
-      rows_at total (length rows + suc n) before (flat_map row_bytes rows ++ rest) ≡ Err e
+      rows_at total (count_with rows n) before (flat_map row_bytes rows ++ rest) ≡ Err e
   unfolding rows_at
   rows_told [] before n rest e fits some rises h = rw h refl
   rows_told (u ∷ us) before n rest e fits some rises h =
       let regrouped : flat_map row_bytes (u ∷ us) ++ rest ≡ row_bytes u ++ (flat_map row_bytes us ++ rest) =
-          ap (λ (x : List ℕ). x ++ rest) (flat_map-cons row_bytes u us) ∙ append_assoc (row_bytes u) (flat_map row_bytes us) rest in
-      ap (rows_at total (suc (length us + suc n)) before) regrouped
+      ap (λ (x : List ℕ). x ++ rest) (flat_map-cons row_bytes u us) ∙ append_assoc (row_bytes u) (flat_map row_bytes us) rest in
+      ap (rows_at total (suc (count_with us n)) before) regrouped
       ∙ rw (parts.row_again total before u (flat_map row_bytes us ++ rest) fits.0 some.0 rises.0, rows_told us (Some u) n rest e fits.1 some.1 rises.1 h) refl
 
 -- ---- the head
@@ -199,7 +209,7 @@ only_letters bytes (faults.Short p) other (inl c) = absurd (omega (arith, c.1, o
 only_letters bytes (faults.Short p) other (inr (inl c)) = absurd (other.1 [] c.1)
 only_letters bytes (faults.Short p) other (inr (inr (at, rest, is, less))) = absurd (other.1 (1 ∷ rest) is)
 only_letters bytes (faults.Magic p) other c = ap (λ (q : ℕ). faults.Magic q) c.0
-only_letters bytes (faults.Form p) other (at, form, rest, is, no) = absurd (other.1 (form ∷ rest) is)
+only_letters bytes (faults.Form p) other (at, form, rest, is, unlike) = absurd (other.1 (form ∷ rest) is)
 only_letters bytes (faults.Size p) other (at, count, rest, is, fits, great) = absurd (other.1 (1 ∷ (to_be_bytes w32 count ++ rest)) is)
 only_letters bytes (faults.Order p) other bad = absurd bad
 only_letters bytes (faults.Zero p) other bad = absurd bad
@@ -215,26 +225,26 @@ other_read bytes (Err e) fits other is =
 head_told : (bytes : List ℕ) (e : PartFault) → IsBytes bytes → IsHeadRefused e bytes → all_of bytes ≡ Err e
 head_told bytes (faults.Short p) fits (inl c) =
     magic_told bytes (faults.Short p)
-        (moved 0 (magic_at (length bytes) bytes) faults.Short p (place (length bytes) bytes) (short_letters (length bytes) bytes c.1) (omega (arith, c.0)))
+    (moved 0 (magic_at (length bytes) bytes) faults.Short p (place (length bytes) bytes) (short_letters (length bytes) bytes c.1) (omega (arith, c.0)))
 head_told bytes (faults.Short p) fits (inr (inl c)) =
     form_told bytes [] (faults.Short p) c.1
-        (moved 0 (form_at (length bytes) []) faults.Short p (place (length bytes) []) (no_form (length bytes)) (omega (arith, c.0, ap (λ (x : List ℕ). length x) c.1)))
+    (moved 0 (form_at (length bytes) []) faults.Short p (place (length bytes) []) (no_form (length bytes)) (omega (arith, c.0, ap (λ (x : List ℕ). length x) c.1)))
 head_told bytes (faults.Short p) fits (inr (inr (at, rest, is, less))) =
     count_told bytes rest (faults.Short p) is
-        (moved 0 (count_at (length bytes) rest) faults.Short p (place (length bytes) rest) (short_count (length bytes) rest less)
-            (omega (arith, at, ap (λ (x : List ℕ). length x) is)))
+    (moved 0 (count_at (length bytes) rest) faults.Short p (place (length bytes) rest) (short_count (length bytes) rest less)
+    (omega (arith, at, ap (λ (x : List ℕ). length x) is)))
 head_told bytes (faults.Magic p) fits c =
     magic_told bytes (faults.Magic p)
-        (moved 0 (magic_at (length bytes) bytes) faults.Magic p 0 (other_read bytes (magic_at (length bytes) bytes) fits c.1 refl) (sym c.0))
+    (moved 0 (magic_at (length bytes) bytes) faults.Magic p 0 (other_read bytes (magic_at (length bytes) bytes) fits c.1 refl) (sym c.0))
 head_told bytes (faults.Form p) fits (at, form, rest, is, other) =
     form_told bytes (form ∷ rest) (faults.Form p) is
-        (moved 0 (form_at (length bytes) (form ∷ rest)) faults.Form p (place (length bytes) (form ∷ rest)) (other_form (length bytes) form rest other)
-            (omega (arith, at, ap (λ (x : List ℕ). length x) is)))
+    (moved 0 (form_at (length bytes) (form ∷ rest)) faults.Form p (place (length bytes) (form ∷ rest)) (other_form (length bytes) form rest other)
+    (omega (arith, at, ap (λ (x : List ℕ). length x) is)))
 head_told bytes (faults.Size p) fits (at, count, rest, is, below, great) =
     let more = to_be_bytes w32 count ++ rest in
     count_told bytes more (faults.Size p) is
-        (moved 0 (count_at (length bytes) more) faults.Size p (place (length bytes) more) (great_count (length bytes) count rest below great)
-            (omega (arith, at, ap (λ (x : List ℕ). length x) is)))
+    (moved 0 (count_at (length bytes) more) faults.Size p (place (length bytes) more) (great_count (length bytes) count rest below great)
+    (omega (arith, at, ap (λ (x : List ℕ). length x) is)))
 head_told bytes (faults.Order p) fits bad = absurd bad
 head_told bytes (faults.Zero p) fits bad = absurd bad
 head_told bytes (faults.Trailing p) fits bad = absurd bad
@@ -247,14 +257,14 @@ row_body bytes e b =
     let n = length bytes in
     let long = size bytes b.count b.rows b.rest b.begins.spelled in
     let here : row_at n (last_of b.rows) b.rest ≡ Err e =
-        row_told n (last_of b.rows) b.rest e (omega (arith, long))
-            (subst (λ (at : ℕ). IsRowRefused (last_of b.rows) at e b.rest) (sym (place_is bytes b.rows b.rest long)) b.row) in
+    row_told n (last_of b.rows) b.rest e (omega (arith, long))
+    (subst (λ (at : ℕ). IsRowRefused (last_of b.rows) at e b.rest) (sym (place_is bytes b.rows b.rest long)) b.row) in
     let last : row_at n (last_or None b.rows) b.rest ≡ Err e = ap (λ (x : Option Update). row_at n x b.rest) (last_or_is b.rows) ∙ here in
     let k = b.count - suc (length b.rows) in
-    let count_is : b.count ≡ length b.rows + suc k = omega (arith, b.more) in
+    let count_is : b.count ≡ count_with n b.rows k = omega (arith, b.more, count_with_is n b.rows k) in
     let rows : rows_at n b.count None (flat_map row_bytes b.rows ++ b.rest) ≡ Err e =
-        ap (λ (c : ℕ). rows_at n c None (flat_map row_bytes b.rows ++ b.rest)) count_is
-        ∙ rows_told n b.rows None k b.rest e b.begins.fits b.begins.nonzero (each_rises b.rows b.begins.rising) last in
+    ap (λ (c : ℕ). rows_at n c None (flat_map row_bytes b.rows ++ b.rest)) count_is
+    ∙ rows_told n b.rows None k b.rest e b.begins.fits b.begins.nonzero (each_rises b.rows b.begins.rising) last in
     rw rows refl
 
 trailing_body : (bytes : List ℕ) (e : PartFault) (t : HasTrailing e bytes) → body_of (length bytes) (length t.rows) (flat_map row_bytes t.rows ++ t.rest) ≡ Err e
@@ -286,8 +296,8 @@ never_both rows e (Ok x) is isnt = absurd cc
 never_both rows e (Err d) is isnt = absurd cc
 
 pub not_both : (bytes : List ℕ) (rows : List Update) (e : PartFault) → IsBytes bytes → Part rows bytes → IsRefused e bytes → ⊥
-not_both bytes rows e fits part no =
-    never_both rows e (all_of bytes) (ap all_of part.1 ∙ parts.all_again rows part.0) (told bytes e fits no)
+not_both bytes rows e fits part bad =
+    never_both rows e (all_of bytes) (ap all_of part.1 ∙ parts.all_again rows part.0) (told bytes e fits bad)
 
 err_is : (d e : PartFault) (r : Result (List Update) PartFault) → r ≡ Err d → r ≡ Err e → d ≡ e
 err_is d e (Ok x) is same = absurd cc
@@ -295,3 +305,16 @@ err_is d e (Err c) is same = cc
 
 pub one_fault : (bytes : List ℕ) (d e : PartFault) → IsBytes bytes → IsRefused d bytes → IsRefused e bytes → d ≡ e
 one_fault bytes d e fits first second = err_is d e (all_of bytes) (told bytes d fits first) (told bytes e fits second)
+
+-- what is answered in place of rows is want of memory, or the fault of the bytes
+pub answered : (bytes : List ℕ) (r : Result (List Update) PartFault) → IsBytes bytes → Gives (λ rows. rows) r (all_of bytes) →
+    IfErr r (λ e. (e ≡ faults.Memory) ⊎ IsRefused e bytes)
+answered bytes (Ok rows) fits given = tt
+answered bytes (Err faults.Memory) fits given = inl refl
+answered bytes (Err (faults.Short p)) fits given = inr (refused bytes (faults.Short p) fits given)
+answered bytes (Err (faults.Magic p)) fits given = inr (refused bytes (faults.Magic p) fits given)
+answered bytes (Err (faults.Form p)) fits given = inr (refused bytes (faults.Form p) fits given)
+answered bytes (Err (faults.Size p)) fits given = inr (refused bytes (faults.Size p) fits given)
+answered bytes (Err (faults.Order p)) fits given = inr (refused bytes (faults.Order p) fits given)
+answered bytes (Err (faults.Zero p)) fits given = inr (refused bytes (faults.Zero p) fits given)
+answered bytes (Err (faults.Trailing p)) fits given = inr (refused bytes (faults.Trailing p) fits given)

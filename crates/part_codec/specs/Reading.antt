@@ -2,6 +2,7 @@
 use Rattle.std.specs.Prelude.{◌≡◌, ℕ, zero, suc, ◌-◌, Bool, true, List, [], ◌∷◌, length, take, drop, Option, Some, None, Result, Ok, Err, nat_lt, ◌==◌, if◌then◌else◌, ⊤}
 use Rattle.std.specs.Int.{Width, w32, w64, byte_len, from_be_bytes, cast_signed}
 use Rattle.std.specs.Ordering.{is_lt}
+use Rattle.update_core.specs.Limits.{max_part_rows}
 use Rattle.update_core.specs.declared.updates.Update.{Update}
 use Rattle.update_core.specs.Updates.{moment_cmp}
 use Rattle.byte_core.specs.declared.shorts.Short.{Short}
@@ -59,7 +60,7 @@ form_at total bytes = do
 unfoldable pub count_at : ℕ → List ℕ → Result (ℕ × List ℕ) PartFault
 count_at total bytes = do
   n ← number_at w32 total bytes
-  if nat_lt 4096 n.0 then Err (faults.Size (place total bytes)) else Ok n
+  if nat_lt max_part_rows n.0 then Err (faults.Size (place total bytes)) else Ok n
 
 -- the length of a datum
 unfoldable pub length_at : ℕ → List ℕ → Result (ℕ × List ℕ) PartFault

@@ -3,6 +3,7 @@
 use Rattle.std.specs.Prelude.{◌≡◌, ◌≢◌, ◌⊎◌, ◌<◌, ◌≤◌, ◌+◌, ◌^◌, false, ℕ, pos, Option, List, [], ◌∷◌, ◌++◌, length}
 use Rattle.std.specs.List.{flat_map, AllByRecursion}
 use Rattle.std.specs.Int.{w32, w64, to_be_bytes}
+use Rattle.update_core.specs.Limits.{max_part_rows}
 use Rattle.update_core.specs.declared.updates.Update.{Update}
 use Rattle.store_core.specs.Stores.{last_of}
 use Rattle.part_codec.specs.declared.part_faults.PartFault.{PartFault}
@@ -26,7 +27,7 @@ IsHeadRefused (faults.Short p) bytes =
 IsHeadRefused (faults.Magic p) bytes = (p ≡ 0) × OtherLetters bytes
 IsHeadRefused (faults.Form p) bytes = (p ≡ 4) × (form : ℕ) × (rest : List ℕ) × (bytes ≡ letters ++ form ∷ rest) × (form ≢ 1)
 IsHeadRefused (faults.Size p) bytes =
-    (p ≡ 5) × (count : ℕ) × (rest : List ℕ) × (bytes ≡ letters ++ 1 ∷ (to_be_bytes w32 count ++ rest)) × (count < 2 ^ 32) × (4096 < count)
+    (p ≡ 5) × (count : ℕ) × (rest : List ℕ) × (bytes ≡ letters ++ 1 ∷ (to_be_bytes w32 count ++ rest)) × (count < 2 ^ 32) × (max_part_rows < count)
 IsHeadRefused _ bytes = ⊥
 
 -- a datum with its length, and a time, each before what is left
@@ -59,7 +60,7 @@ IsRowRefused before at _ rest = ⊥
 
 -- The head of a part of so many rows, some rows of it, and what is left.
 pub record Begins (bytes : List ℕ) (count : ℕ) (rows : List Update) (rest : List ℕ) : Type 0 where
-  pub few : count ≤ 4096
+  pub few : count ≤ max_part_rows
   pub spelled : bytes ≡ letters ++ 1 ∷ (to_be_bytes w32 count ++ (flat_map row_bytes rows ++ rest))
   pub rising : Rising rows
   pub nonzero : NonZero rows

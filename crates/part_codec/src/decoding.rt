@@ -1,9 +1,11 @@
 // Reading of parts.
-ghost use Rattle.std.specs.Prelude.{◌≡◌, List, [], length, IfOk, Ok, None};
+ghost use Rattle.std.specs.Prelude.{◌≡◌, ◌⊎◌, List, [], length, IfErr, IfOk, Ok, None};
 ghost use Rattle.std.specs.Int.{w32, w64};
 ghost use Rattle.store_core.specs.Stores.{last_of};
 ghost use Rattle.update_core.specs.declared.updates.Update.{Update as Row};
 ghost use Rattle.part_codec.specs.Parts.{Part};
+ghost use Rattle.part_codec.specs.Refusals.{IsRefused};
+ghost use Rattle.part_codec.specs.declared.part_faults.PartFault.TheVariants.{Memory};
 ghost use Rattle.byte_core.specs.Reading.{place};
 ghost use Rattle.part_codec.specs.Reading.{Gives, byte_at, number_at, magic, magic_at, form_at, count_at, length_at, datum_at, bits_at, fields_at, follows, row_at, rows_at, all_of};
 
@@ -201,6 +203,8 @@ pub fn decode_part(alloc: Global, bytes: &[u8]) -> Result<UpdateList, PartFault>
     ensures found { IfOk result (λ rows. Part rows bytes.now) }
     // A part is read, unless memory runs out.
     ensures only { (rows : List Row) → Part rows bytes.now → Gives (λ found. found) result (Ok rows) }
+    // Else it is the one fault that these bytes have, unless memory runs out.
+    ensures refused { IfErr result (λ fault. (fault ≡ Memory) ⊎ IsRefused fault bytes.now) }
     // Which fault it is, and where.
     ensures exact { Gives (λ found. found) result (all_of bytes.now) }
 {

@@ -13,7 +13,7 @@ use Rattle.store_core.specs.Newest.{mine_back}
 use Rattle.store_core.specs.Ports.{Answered}
 use Rattle.store_core.specs.Stores.{Stored}
 use Rattle.state_core.specs.States.{ShardState, keys_of}
-use Rattle.version_codec.specs.Reading.{most}
+use Rattle.update_core.specs.Limits.{most}
 use Rattle.version_codec.proofs.Facts.{version_in_state}
 use Rattle.history_core.specs.Costs.{failed_calls}
 use Rattle.history_core.specs.Discipline.{Allows, ShowsState}

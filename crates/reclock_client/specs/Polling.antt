@@ -6,7 +6,7 @@ use Rattle.update_core.specs.Frontiers.{after}
 use Rattle.update_core.specs.Updates.{slice_of}
 use Rattle.store_core.specs.Histories.{History}
 use Rattle.state_core.specs.declared.transitions.Transition.TheVariants.{Init}
-use Rattle.version_codec.specs.Reading.{most}
+use Rattle.update_core.specs.Limits.{most}
 use Rattle.history_core.specs.declared.asked.Asked.TheVariants as asks
 use Rattle.history_core.specs.declared.read_answers.ReadAnswer.{ReadAnswer}
 use Rattle.history_core.specs.declared.write_answers.WriteAnswer.{WriteAnswer}

@@ -1,5 +1,6 @@
 // Operator: a client that binds times to a source's offsets, and publishes its rows at these times.
 ghost use Rattle.std.specs.Prelude.{◌≡◌, ◌≢◌, ◌≤◌, ◌^◌, ℕ, None, Some, Option, IfNone, IfOk, if◌then◌else◌, is_some};
+ghost use Rattle.update_core.specs.Limits.{max_weight};
 ghost use Rattle.store_core.specs.Histories.{History};
 ghost use Rattle.remap_core.specs.Reclocking.{reclocked, weight_of_rows};
 ghost use Rattle.reclock_client.specs.Beginning.{Begins, begun, begun_sync, fault, publish_fault};
@@ -115,7 +116,7 @@ impl Operator {
 
     /// The rows at the times that the known bindings give them, consolidated, by time and datum. It fails only for want of memory.
     pub fn collection(&self, alloc: Global, rows: &SourceList) -> Result<UpdateList, AllocError>
-        requires { weight_of_rows rows.now ≤ 2 ^ 62 }
+        requires { weight_of_rows rows.now ≤ max_weight }
         ensures { IfOk result (λ list. list ≡ reclocked rows.now self.now.course.bindings 0) }
     {
         reclocked(alloc, rows, &self.course.bindings, 0)
@@ -203,7 +204,7 @@ impl Operator {
     fn publish_fault(&self, rows: &SourceList) -> Option<BeginFault>
         ensures fault { result ≡ publish_fault self.now rows.now }
         ensures free { IfNone result (fault self.now ≡ None) }
-        ensures light { IfNone result (weight_of_rows rows.now ≤ 2 ^ 62) }
+        ensures light { IfNone result (weight_of_rows rows.now ≤ max_weight) }
     {
         if let Some(fault) = self.fault() {
             return Some(fault);

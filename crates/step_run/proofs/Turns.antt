@@ -14,7 +14,7 @@ use Rattle.store_core.specs.declared.entries.Entry.{Entry}
 use Rattle.store_core.specs.Stores.{Stored}
 use Rattle.store_core.specs.Histories.{History, faults_of, reply, reply_by}
 use Rattle.store_core.specs.Newest.{mine_back, replay_back}
-use Rattle.version_codec.specs.Reading.{most}
+use Rattle.update_core.specs.Limits.{most}
 use Rattle.history_core.specs.Discipline.{Allows}
 use Rattle.history_core.specs.Legal.{AtLast}
 use Rattle.history_core.specs.Placing.{placed, places, AtLastScan}

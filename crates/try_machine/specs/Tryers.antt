@@ -10,7 +10,7 @@ use Rattle.store_core.specs.Stores.{Stored}
 use Rattle.store_core.specs.Newest.{mine_back}
 use Rattle.state_core.specs.declared.transitions.Transition.{Transition}
 use Rattle.state_core.specs.States.{ShardState}
-use Rattle.version_codec.specs.Reading.{most}
+use Rattle.update_core.specs.Limits.{most}
 use Rattle.history_core.specs.Placing.{places}
 use Rattle.load_core.specs.declared.polls.Poll.{Poll}
 use Rattle.load_core.specs.declared.polls.Poll.TheVariants as polls

@@ -2,6 +2,7 @@
 use Rattle.std.specs.Prelude.{⊤, ◌≡◌, ℕ, zero, suc, ◌+◌, ◌-◌, ◌^◌, Bool, true, List, [], ◌∷◌, ◌++◌, length, take, drop, Option, Some, None, Result, Ok, Err, nat_lt, ◌==◌, if◌then◌else◌, ◌&&◌, not, ◌||◌}
 use Rattle.std.specs.List.{list_any}
 use Rattle.std.specs.Int.{Width, w16, w32, w64, byte_len, from_be_bytes}
+use Rattle.update_core.specs.Limits.{max_weight, most}
 use Rattle.update_core.specs.Frontiers.{covers, is_at, frontier_eq}
 use Rattle.byte_core.specs.declared.shorts.Short.{Short}
 use Rattle.byte_core.specs.Reading.{place}
@@ -107,10 +108,6 @@ kind_at total bytes = do
   known_kind total bytes (kind_of tag.0) tag.1
 
 -- ---- members, to be added to a state that has the fields and members before them
-
--- the greatest number in eight bytes
-abbrev pub most : ℕ
-most = 0xffff_ffff_ffff_ffff
 
 -- a limit for a writer, and another for the other kinds
 abbrev pub unless_writer : Kind → ℕ → ℕ
@@ -284,7 +281,7 @@ head_at total s bytes = do
   next_member ← limited_at total s.number bytes
   since ← number_at total next_member.1
   upper ← frontier_at total since.1
-  weight ← limited_at total (2 ^ 62) upper.1
+  weight ← limited_at total max_weight upper.1
   Ok (record s { next_member = next_member.0; since = since.0; upper = upper.0; weight = weight.0 }, weight.1)
 
 -- the state of this shard and number

@@ -2,6 +2,7 @@
 ghost use Rattle.std.specs.Prelude.{◌≡◌, ◌≤◌, ◌<◌, ◌∷◌, ◌++◌, [], length, OnOk, IfOk};
 ghost use Rattle.std.specs.Int.{w16, to_be_bytes};
 ghost use Rattle.std.specs.List.{AllByRecursion};
+ghost use Rattle.update_core.specs.Limits.{max_members};
 ghost use Rattle.state_core.specs.States.{IsState};
 ghost use Rattle.state_core.specs.Steps.{acts_for, taken_by};
 ghost use Rattle.version_codec.specs.Versions.{number_bytes, frontier_bytes, kind_byte, member_bytes, members_bytes, key_bytes, keys_bytes, batch_bytes, batches_bytes, state_bytes, step_bytes, version_spelling};
@@ -102,7 +103,7 @@ fn put_batch(out: &mut Vec<u8>, batch: &Batch) -> Result<(), AllocError>
 
 #[tactic(auto, using(crate::proofs::Writing::each_more))]
 fn put_members(out: &mut Vec<u8>, members: &[Member]) -> Result<(), AllocError>
-    requires { length members.now ≤ 256 }
+    requires { length members.now ≤ max_members }
     ensures written { OnOk result (out.new.items ≡ out.old.items ++ members_bytes members.now) }
     ensures fits { OnOk result (AllByRecursion MemberFits members.now) }
 {

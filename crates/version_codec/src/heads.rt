@@ -5,7 +5,8 @@ ghost use Rattle.store_core.specs.Stores.{last_of};
 ghost use Rattle.state_core.specs.Steps.{init};
 ghost use Rattle.state_core.specs.States.{least_since};
 ghost use Rattle.state_core.specs.Drafts.{drafted};
-ghost use Rattle.version_codec.specs.Reading.{Gives, head_at, may_join, joined_at, most, most_since, most_token, unless_writer, member_at, members_at, member_count_at, reader_place, since_is, all_members_at, wide_at};
+ghost use Rattle.version_codec.specs.Reading.{Gives, head_at, may_join, joined_at, most_since, most_token, unless_writer, member_at, members_at, member_count_at, reader_place, since_is, all_members_at, wide_at};
+ghost use Rattle.update_core.specs.Limits.{most};
 
 use crate::fields::{frontier_of, next_frontier, next_kind, next_limited, next_number};
 use crate::version_faults::VersionFault;
