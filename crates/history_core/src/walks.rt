@@ -102,7 +102,7 @@ fn no_version_or_memory(fault: VersionFault) -> Result<Option<(State, Transition
 }
 
 // The state and transition of a version, if the bytes spell one.
-#[tactic(auto, unfolding(state_core::specs::VersionReading::version_in))]
+#[tactic(auto, unfolding(version_codec::specs::Reading::version_in))]
 fn version_of(
     alloc: Global,
     shard: ShardId,
