@@ -212,7 +212,7 @@ collecting = record {
   Spares = λ c call. ⊤;
   Legal = λ client k calls answer start es list.
       IfSome k.asked (λ a. LegalCollectBack start es (command client k calls a) answer);
-  least = 2;
+  least = collect_base 0;
   CostAt = λ base client c start es list. c.calls < most → CostBy client c.calls c.sweep es;
   CostOver = λ base client old new start es list. new.calls < most → CostEnded client new.shard new.calls start es;
 }
