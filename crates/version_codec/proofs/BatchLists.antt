@@ -12,7 +12,7 @@ use Rattle.state_core.specs.States.{ShardState}
 use Rattle.version_codec.specs.Reading.{number_at, batch_at, batches_at, with_batch, batch_count_at, all_batches_at}
 use Rattle.version_codec.specs.Versions.{number_bytes, batch_bytes, batches_bytes, NumberFits, BatchFits, BatchesFit}
 use Rattle.state_core.proofs.Rules.{Rise}
-use Rattle.version_codec.proofs.Fields.{bind_then, guard_passed, ok_is, Took, took_then, number_took, number_again}
+use Rattle.version_codec.proofs.FieldLaws.{bind_then, guard_passed, ok_is, Took, took_then, number_took, number_again}
 use Rattle.version_codec.proofs.Batches.{BatchMay, TookBatch, batch_took, batch_again}
 use Rattle.version_codec.proofs.BatchRules.{BatchesMay, may_reach}
 

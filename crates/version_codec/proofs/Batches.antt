@@ -10,7 +10,7 @@ use Rattle.state_core.specs.States.{ShardState, keys_of}
 use Rattle.version_codec.specs.Reading.{number_at, limited_at, frontier_at, keys_at, lower_at, may_end, upper_at, part_count_at, batch_at}
 use Rattle.version_codec.specs.Versions.{number_bytes, frontier_bytes, key_bytes, keys_bytes, batch_bytes, NumberFits, FrontierFits, PartKeysFit, BatchFits}
 use Rattle.state_core.proofs.Rules.{Rise}
-use Rattle.version_codec.proofs.Fields.{bind_then, guard_passed, ok_is, Took, took_then, number_took, number_again, limited_took, limited_again, frontier_took, frontier_again}
+use Rattle.version_codec.proofs.FieldLaws.{bind_then, guard_passed, ok_is, Took, took_then, number_took, number_again, limited_took, limited_again, frontier_took, frontier_again}
 use Rattle.version_codec.proofs.Keys.{KeysMay, ReadKeys, keys_took, keys_again}
 
 -- what a batch keeps that is read after others, the last one or not

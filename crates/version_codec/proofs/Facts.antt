@@ -9,7 +9,7 @@ use Rattle.state_core.specs.States.{ShardState, IsState}
 use Rattle.version_codec.specs.Reading.{magic_at, form_at, state_at, step_at, read_version, whole, version_in}
 use Rattle.version_codec.specs.Versions.{state_bytes, step_bytes, version_spelling, IsVersion, VersionOf}
 use Rattle.byte_core.specs.ByteLists.{IsBytes}
-use Rattle.version_codec.proofs.Fields.{bind_then, guard_passed, ok_is, Took, took_then, magic_took, magic_again, form_took, form_again}
+use Rattle.version_codec.proofs.FieldLaws.{bind_then, guard_passed, ok_is, Took, took_then, magic_took, magic_again, form_took, form_again}
 use Rattle.version_codec.proofs.States.{ReadState, state_took, state_again}
 use Rattle.version_codec.proofs.Transitions.{ReadStep, step_took, step_again}
 

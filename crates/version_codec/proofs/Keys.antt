@@ -16,7 +16,7 @@ use Rattle.version_codec.specs.Reading.{number_at, limited_at, below_at, most_sp
 use Rattle.version_codec.specs.Versions.{number_bytes, key_bytes, NumberFits, PartKeyFits}
 use Rattle.state_core.proofs.ListLemmas.{bool_cases, each_map, among_split, apart}
 use Rattle.state_core.proofs.Rules.{Rise}
-use Rattle.version_codec.proofs.Fields.{bind_then, guard_ok, ok_is, Took, took_then, number_took, number_again, limited_took, limited_again, below_took, below_again}
+use Rattle.version_codec.proofs.FieldLaws.{bind_then, guard_ok, ok_is, Took, took_then, number_took, number_again, limited_took, limited_again, below_took, below_again}
 use Rattle.version_codec.proofs.Members.{and_true}
 
 -- ---- keys as they are compared

@@ -1,13 +1,13 @@
 pub mod Facts
 pub mod Writing
-pub mod Fields
+pub mod FieldLaws
 pub mod Members
 pub mod MemberLists
 pub mod Keys
 pub mod Batches
 pub mod BatchRules
 pub mod BatchLists
-pub mod Steps
+pub mod StepLaws
 pub mod Transitions
 pub mod States
 pub mod Loops

@@ -11,7 +11,7 @@ use Rattle.version_codec.specs.declared.version_faults.VersionFault.{VersionFaul
 use Rattle.state_core.specs.States.{ShardState, MembersRise, KindRules, SinceIs, least_since}
 use Rattle.version_codec.specs.Reading.{wide_at, may_join, member_at, members_at, with_member, member_count_at, all_members_at, since_is}
 use Rattle.version_codec.specs.Versions.{member_bytes, members_bytes, MemberFits}
-use Rattle.version_codec.proofs.Fields.{bind_then, guard_ok, guard_passed, ok_is, Took, took_then, wide_took, wide_again}
+use Rattle.version_codec.proofs.FieldLaws.{bind_then, guard_ok, guard_passed, ok_is, Took, took_then, wide_took, wide_again}
 use Rattle.byte_core.proofs.Wide.{wide16}
 use Rattle.version_codec.proofs.Members.{and_true, last_of-push, MembersMay, TookMember, member_took, member_again}
 

@@ -9,7 +9,7 @@ use Rattle.state_core.specs.States.{ShardState, KindRules}
 use Rattle.version_codec.specs.Reading.{number_at, limited_at, kind_at, may_join, joined_at, most_since, most_token, unless_writer, member_at}
 use Rattle.update_core.specs.Limits.{most}
 use Rattle.version_codec.specs.Versions.{number_bytes, kind_byte, member_bytes, NumberFits, MemberFits}
-use Rattle.version_codec.proofs.Fields.{bind_ok, bind_then, guard_passed, ok_is, Took, took_then, number_took, number_again, limited_took, limited_again, kind_took, kind_again}
+use Rattle.version_codec.proofs.FieldLaws.{bind_ok, bind_then, guard_passed, ok_is, Took, took_then, number_took, number_again, limited_took, limited_again, kind_took, kind_again}
 
 pub and_true : (a b : Bool) → (a && b) ≡ true → (a ≡ true) × (b ≡ true)
 and_true true b h = (refl, h)

@@ -7,7 +7,7 @@ use Rattle.state_core.specs.Steps.{init}
 use Rattle.version_codec.specs.Reading.{number_at, limited_at, frontier_at, head_at, all_members_at, all_batches_at, state_at}
 use Rattle.version_codec.specs.Versions.{number_bytes, frontier_bytes, members_bytes, batches_bytes, state_bytes, NumberFits, FrontierFits, StateFits}
 use Rattle.state_core.proofs.Rules.{rise_of}
-use Rattle.version_codec.proofs.Fields.{bind_then, ok_is, Took, took_then, number_took, number_again, limited_took, limited_again, frontier_took, frontier_again}
+use Rattle.version_codec.proofs.FieldLaws.{bind_then, ok_is, Took, took_then, number_took, number_again, limited_took, limited_again, frontier_took, frontier_again}
 use Rattle.version_codec.proofs.MemberLists.{with_members, MemberRules, may_rules, rules_may, AllMembers, all_members_took, all_members_again}
 use Rattle.version_codec.proofs.BatchRules.{BatchRules, may_rules as rules_of_batches, rules_may as batches_of_rules}
 use Rattle.version_codec.proofs.BatchLists.{AllBatches, all_batches_took, all_batches_again}

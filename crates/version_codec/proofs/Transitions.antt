@@ -16,9 +16,9 @@ use Rattle.version_codec.specs.Reading.{byte_at, number_at, frontier_at, kind_at
 use Rattle.version_codec.specs.Versions.{number_bytes, frontier_bytes, kind_byte, keys_bytes, batch_bytes, step_bytes, NumberFits, FrontierFits, StepFits, IsShapedAlone, IsBelow, before_merge}
 use Rattle.state_core.proofs.ListLemmas.{each_append, each_front, each_back}
 use Rattle.state_core.proofs.Refused.{join_shape, append_shape, merge_shape, shaped_join, shaped_append, shaped_merge}
-use Rattle.version_codec.proofs.Fields.{bind_then, guard_passed, ok_is, Took, took_then, byte_took, number_took, number_again, frontier_took, frontier_again, kind_took, kind_again}
+use Rattle.version_codec.proofs.FieldLaws.{bind_then, guard_passed, ok_is, Took, took_then, byte_took, number_took, number_again, frontier_took, frontier_again, kind_took, kind_again}
 use Rattle.version_codec.proofs.Members.{and_true}
-use Rattle.version_codec.proofs.Steps.{AreOf, TookKeys, counted_took, counted_again, TookStepBatch, step_batch_took, step_batch_again}
+use Rattle.version_codec.proofs.StepLaws.{AreOf, TookKeys, counted_took, counted_again, TookStepBatch, step_batch_took, step_batch_again}
 
 -- the case of a test
 by_test : {A : Type 0} (b : Bool) (r q : Result A VersionFault) (x : A) → cond b r q ≡ Ok x → ((b ≡ true) × (r ≡ Ok x)) ⊎ ((b ≡ false) × (q ≡ Ok x))

@@ -9,7 +9,7 @@ use Rattle.spine_core.specs.declared.batches.Batch.{Batch}
 use Rattle.version_codec.specs.declared.version_faults.VersionFault.{VersionFault}
 use Rattle.version_codec.specs.Reading.{number_at, frontier_at, step_key_at, step_keys_at, counted_keys_at, step_batch_at}
 use Rattle.version_codec.specs.Versions.{number_bytes, frontier_bytes, key_bytes, keys_bytes, batch_bytes, NumberFits, FrontierFits, PartKeyFits, PartKeysFit, BatchFits}
-use Rattle.version_codec.proofs.Fields.{bind_then, ok_is, Took, took_then, number_took, number_again, frontier_took, frontier_again}
+use Rattle.version_codec.proofs.FieldLaws.{bind_then, ok_is, Took, took_then, number_took, number_again, frontier_took, frontier_again}
 
 -- each key is of the shard
 abbrev pub AreOf : ShardId → List PartKey → Type 0
