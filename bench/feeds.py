@@ -1,6 +1,7 @@
 #!/usr/bin/env python3
 """Writes a feed near the limits to standard output: few-large, many-small, distinct; appends-N, of N appends of 100 rows; or
-upkeep-N-S, of 1,900 appends of 100 rows with a compact after each Nth (0: none), and S snapshots at the end."""
+upkeep-N-S, of 1,900 appends of 100 rows, a since after each hundredth, with a compact after each Nth (0: none), and S snapshots at the
+end."""
 import sys
 
 
@@ -41,6 +42,8 @@ def feed(kind):
         every, snapshots = map(int, kind.removeprefix("upkeep-").split("-"))
         for number in range(1_900):
             append(out, number, 100, 1_000, draw)
+            if number % 100 == 99:
+                out.append(f"since {10 * number + 9}")
             if every and number % every == every - 1:
                 out.append("compact")
         out += ["snapshot 18999"] * snapshots

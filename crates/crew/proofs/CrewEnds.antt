@@ -1,7 +1,7 @@
 -- What a crew's passes make of its store.
 use Rattle.std.proofs.Common.{◌≡◌, ◌≢◌, ℕ, suc, ◌+◌, ◌<◌, true, false, Option, Some, None, List, [], ◌∷◌, ◌++◌, length, refl, sym, ap, subst, ◌∙◌}
 use Rattle.std.proofs.Common.{arith, append-nil}
-use Rattle.std.specs.Prelude.{◌==◌, slice_index_or}
+use Rattle.std.specs.Prelude.{◌==◌, reverse, slice_index_or}
 use Rattle.std.specs.List.{AllByRecursion}
 use Rattle.update_core.specs.declared.appends.FeedAppend.{FeedAppend}
 use Rattle.turnstile.specs.declared.views.View.{View}
@@ -18,18 +18,21 @@ use Rattle.update_core.specs.declared.updates.Update.{Update}
 use Rattle.load_core.specs.Fronts.{Backwards, WhereLawful}
 use Rattle.history_core.specs.declared.merge_answers.MergeAnswer.TheVariants as merges
 use Rattle.history_core.specs.declared.write_answers.WriteAnswer.TheVariants as answers
+use Rattle.history_core.specs.declared.read_answers.ReadAnswer.TheVariants as reads
 use Rattle.appends_core.specs.Feeds.{IsFeed, end_of_feed}
 use mathlib.Core.List.{IsPrefix}
-use Rattle.store_core.specs.Ports.{GrowsByOthers, with_entries}
+use Rattle.store_core.specs.Ports.{Answered, GrowsByOthers, with_entries}
+use Rattle.store_core.specs.Newest.{mine_back}
 use Rattle.shared_store.specs.declared.counted_stores.CountedStore.{CountedStore}
 use Rattle.shared_store.specs.Fronts.{front_of, told_history}
 use Rattle.shared_store.specs.Trails.{entry_client, extended}
 use Rattle.history_core.specs.Discipline.{Lawful}
 use Rattle.history_core.proofs.Prefixes.{prefix_lawful}
 use Rattle.crew_core.specs.declared.jobs.Job.{Job}
+use Rattle.crew_core.specs.declared.jobs.Job.TheVariants as jobs
 use Rattle.crew_core.specs.Keeping.{Keeps}
-use Rattle.crew_core.specs.Working.{IsWorkersEntry, Role, as_collector, as_compactor, as_writer, role_of}
-use Rattle.crew_core.specs.Competing.{FromWorkers}
+use Rattle.crew_core.specs.Working.{IsWorkersEntry, Role, as_collector, as_compactor, as_follower, as_pin, as_writer, role_of}
+use Rattle.crew_core.specs.Competing.{FromWorkers, SuitsCrew}
 use Rattle.crew_core.proofs.CrewLaws.{competing_law, lawful_law, readers_law}
 use Rattle.crew_core.proofs.Keeping.{entries_joined, keeps_first, of_entries}
 use Rattle.std.specs.Prelude.{IfNone, IfSome, IsSome}
@@ -39,7 +42,8 @@ use Rattle.turnstile.specs.Passes.{IsPassOf, first_value, view}
 use Rattle.shared_store.specs.Passes.{told_of}
 use Rattle.crew.specs.declared.ends.WorkerEnd.{WorkerEnd}
 use Rattle.crew.specs.declared.ends.WorkerEnd.TheVariants as ends
-use Rattle.crew.specs.Ends.{CollectorMeans, CompactorMeans, EndMeans, HasMerged, IsAnswered, IsMergeAnswered, Once, UpperIs, WasCollected, WriterMeans}
+use Rattle.crew.specs.Ends.{CollectorMeans, CompactorMeans, EndMeans, FollowerMeans, HasFollowed, HasMerged, IsAnswered, IsMergeAnswered}
+use Rattle.crew.specs.Ends.{IsReadAnswered, Once, PinMeans, UpperIs, WasCollected, WriterMeans}
 use Rattle.crew.specs.Looping.{EndCounts}
 use Rattle.crew.specs.declared.seats.Seat.{Seat}
 use Rattle.crew.specs.Crews.{CrewRan, CrewRanOn}
@@ -48,7 +52,7 @@ use Rattle.crew.specs.Seats.{AllEndAs, CountsAs, EndsAs, EndsOn, HasNumber, HasW
 use Rattle.crew.specs.Seats.{IsAlone, PlacedFrom, SeenSame, Suits, Shows, next_number, own_number, ShowsSeat, Works, ends_of, share_in, shares_of}
 use Rattle.crew.specs.declared.plans.Plan.{Plan}
 use Rattle.crew.specs.Plans.{client_of, job_in, job_of, role_in}
-use Rattle.crew.proofs.Endings.{once_with}
+use Rattle.crew.proofs.MeansGrown.{means_grown}
 use Rattle.crew.proofs.PortKeeping.{front_is, some_is}
 use Rattle.crew.proofs.Numbers.{is_client, is_next, next_of}
 use Rattle.crew.proofs.Seating.{kin_as, none_kept, one_some, rest_of_others}
@@ -65,32 +69,44 @@ first_in : (kin : List (ℕ × List Entry)) (older newer : List Entry) → EachI
 first_in kin [] newer h = tt
 first_in kin (x ∷ older) newer h = (h.0, first_in kin older newer h.1)
 
+-- a worker's role is one of the plan's crew
+suits : (plan : Plan) (own : List Answered) (job : Job) → SuitsCrew plan.appends own (role_of job plan.appends)
+suits plan own jobs.Write = refl
+suits plan own jobs.Merge = tt
+suits plan own jobs.Collect = tt
+suits plan own jobs.Pin = tt
+
 pub crew_ran : (plan : Plan) (h : History) (gain : List Entry) (kin : List (ℕ × List Entry)) → IsFeed plan.appends →
     EachIn entry_client kin gain → ((n : ℕ) → 0 < times n kin → Keeps (IsWorkersEntry (role_in plan n) plan.shard) plan.shard n h gain) →
     CrewRan plan h (with_entries h gain)
 crew_ran plan h gain kin feed each keeps = record {
   gain = gain;
   now_is = refl;
-  lawful = λ list st l. lawful_law (job_in plan) plan.appends plan.shard list kin h gain st l all;
+  lawful = λ list st l. lawful_law (role_in plan) plan.appends plan.shard list kin h gain st l all;
   each = λ list st l older newer e split.
       let mine = in_kin kin older newer e (subst (EachIn entry_client kin) split each) in
-      let whole = lawful_law (job_in plan) plan.appends plan.shard list kin h gain st l all in
+      let whole = lawful_law (role_in plan) plan.appends plan.shard list kin h gain st l all in
       let joined : with_entries (with_entries h older) (e ∷ newer) ≡ with_entries h gain =
       entries_joined h older (e ∷ newer) ∙ ap (with_entries h) (sym split) in
       keeps e.client mine older newer e split refl list st
       (prefix_lawful (with_entries h older) (e ∷ newer) (subst Lawful (sym joined) whole));
   collection = λ list st l c has older newer split.
-      competing_law (job_in plan) plan.appends plan.shard list kin h older feed.follow st l (some older newer split) c has;
+      competing_law (role_in plan) plan.appends plan.shard list kin h older feed.follow st l (some older newer split) c has;
   readers = λ list st l member since there older newer split.
-      readers_law (job_in plan) plan.appends plan.shard list kin h older st l (some older newer split) member since there;
+      readers_law (role_in plan) plan.appends plan.shard list kin h older st l (some older newer split) member since there;
 }
   where
-    all : FromWorkers (job_in plan) plan.appends plan.shard kin h gain
-    all = record { each_of = each; each_keeps = keeps }
+    all : FromWorkers (role_in plan) plan.appends plan.shard kin h gain
+    all = record {
+      each_of = each;
+      each_suits = λ n mine. suits plan (mine_back h.start (reverse h.trail) n) (job_in plan n);
+      each_keeps = keeps;
+    }
 
-    some : (older newer : List Entry) → gain ≡ older ++ newer → FromWorkers (job_in plan) plan.appends plan.shard kin h older
+    some : (older newer : List Entry) → gain ≡ older ++ newer → FromWorkers (role_in plan) plan.appends plan.shard kin h older
     some older newer split = record {
       each_of = first_in kin older newer (subst (EachIn entry_client kin) split each);
+      each_suits = λ n mine. suits plan (mine_back h.start (reverse h.trail) n) (job_in plan n);
       each_keeps = λ n mine.
           keeps_first (IsWorkersEntry (role_in plan n) plan.shard) plan.shard n h older newer
           (subst (Keeps (IsWorkersEntry (role_in plan n) plan.shard) plan.shard n h) split (keeps n mine));
@@ -98,7 +114,7 @@ crew_ran plan h gain kin feed each keeps = record {
 
 module _ {S : Type 0} where
   -- where the history wasn't told nothing is
-  front_none : (history : S → Option History) (v : View S Entry) → opened history v ≡ None → front_of history v ≡ None
+  pub front_none : (history : S → Option History) (v : View S Entry) → opened history v ≡ None → front_of history v ≡ None
   front_none history v e = go v.start e
     where
       on : (o : Option History) (xs ys : List Entry) → extended o xs ≡ None → extended o (xs ++ ys) ≡ None
@@ -195,63 +211,6 @@ seats_there {S = S} {G = G} None xs ys len some = λ e. some (none xs (sym len �
     none [] e = refl
     none (z ∷ zs) e = absurd (omega arith)
 seats_there (Some p) xs ys len some = tt
-
--- what an end means on a front it means on what that has grown to
-pub means_grown : (role : Role) (shard : ShardId) (client : ℕ) (h : History) (xs ys : List Entry) (end : WorkerEnd) →
-    IsPrefix xs ys → EndMeans role shard client (Some (with_entries h xs)) end →
-    EndMeans role shard client (Some (with_entries h ys)) end
-means_grown role shard client h xs ys end (rest, is) = by role end
-  where
-    joined : with_entries (with_entries h xs) rest ≡ with_entries h ys
-    joined = entries_joined h xs rest ∙ ap (with_entries h) is
-
-    on : (P : Stored → List Entry → List Update → Type 0) → WhereLawful shard (Some (with_entries h xs)) (Backwards (Once P)) →
-        WhereLawful shard (Some (with_entries h ys)) (Backwards (Once P))
-    on P k = subst (λ (g : History). WhereLawful shard (Some g) (Backwards (Once P))) joined (once_with P shard (with_entries h xs) rest k)
-
-    of_writer : (appends : List FeedAppend) (e : WorkerEnd) → WriterMeans appends shard client (Some (with_entries h xs)) e →
-        WriterMeans appends shard client (Some (with_entries h ys)) e
-    of_writer appends ends.Finished k = λ some. on (UpperIs shard (end_of_feed appends)) (k some)
-    of_writer appends (ends.Misfit upper) k = (k.0, on (UpperIs shard upper) k.1)
-    of_writer appends (ends.MembersFull version) k =
-        on (λ start es list. (p : ℕ) × IsAnswered appends p shard client (answers.MembersFull version) start es list) k
-    of_writer appends (ends.Heavy weight) k =
-        on (λ start es list. (p : ℕ) × IsAnswered appends p shard client (answers.Heavy weight) start es list) k
-    of_writer appends ends.Stopped k = tt
-    of_writer appends ends.Faulted k = tt
-    of_writer appends ends.Memory k = tt
-    of_writer appends (ends.Damaged damage) k = tt
-    of_writer appends ends.Spent k = tt
-
-    of_compactor : (e : WorkerEnd) → CompactorMeans shard client (Some (with_entries h xs)) e →
-        CompactorMeans shard client (Some (with_entries h ys)) e
-    of_compactor ends.Finished k = on (HasMerged shard client) k
-    of_compactor (ends.Misfit upper) k = absurd k
-    of_compactor (ends.MembersFull version) k = on (IsMergeAnswered shard client (merges.MembersFull version)) k
-    of_compactor (ends.Heavy weight) k = absurd k
-    of_compactor ends.Stopped k = tt
-    of_compactor ends.Faulted k = tt
-    of_compactor ends.Memory k = tt
-    of_compactor (ends.Damaged damage) k = tt
-    of_compactor ends.Spent k = tt
-
-    of_collector : (e : WorkerEnd) → CollectorMeans shard client (Some (with_entries h xs)) e →
-        CollectorMeans shard client (Some (with_entries h ys)) e
-    of_collector ends.Finished k = on (WasCollected shard client) k
-    of_collector (ends.Misfit upper) k = absurd k
-    of_collector (ends.MembersFull version) k = absurd k
-    of_collector (ends.Heavy weight) k = absurd k
-    of_collector ends.Spent k = absurd k
-    of_collector ends.Stopped k = tt
-    of_collector ends.Faulted k = tt
-    of_collector ends.Memory k = tt
-    of_collector (ends.Damaged damage) k = tt
-
-    by : (r : Role) (e : WorkerEnd) → EndMeans r shard client (Some (with_entries h xs)) e →
-        EndMeans r shard client (Some (with_entries h ys)) e
-    by (as_writer appends) e k = of_writer appends e k
-    by as_compactor e k = of_compactor e k
-    by as_collector e k = of_collector e k
 
 module _ {S : Type 0} {G : Ghosts S} (appends : List FeedAppend) (shard : ShardId) (t : Turnstile (CountedStore S G) S Entry) where
   pub all_worked : (xs ys : List (Seat S G)) → length ys ≡ length xs →

@@ -13,6 +13,8 @@ use Rattle.std.proofs.option.Option.TheSendSync as options
 use Rattle.crew.specs.contracts.seats.Seat as seat
 use Rattle.crew_core.proofs.jobs.Job.TheSendSync as jobs
 use Rattle.crew.proofs.ends.WorkerEnd.TheSendSync as ends
+use Rattle.read_client.specs.contracts.readers.Reader as reader
+use Rattle.read_client.proofs.readers.Reader.TheSendSync as readers
 
 pub pass_send : (S : RattleType) (g : Ghosts S.Denot) → IsSend S → IsSend (pass.the_row (counted.the_row S g) S entry.the_row)
 pass_send S g s = passes.the_send (counted.the_row S g) S entry.the_row (counted_send S g s)
@@ -24,7 +26,10 @@ seat_send S g s = declared_send (seat.the_type S g) (
     jobs.the_send,
     (
       options.the_send u64 (search sendable),
-      (options.the_send (pass.the_row (counted.the_row S g) S entry.the_row) (pass_send S g s), (ends.the_send, tt)),
+      (
+        options.the_send (pass.the_row (counted.the_row S g) S entry.the_row) (pass_send S g s),
+        (options.the_send reader.the_row readers.the_send, (ends.the_send, tt)),
+      ),
     ),
   ),
 )

@@ -5,11 +5,14 @@ mod CollectTurning
 mod CrewEnds
 mod Endings
 mod Looping
+mod MeansGrown
 mod MergeBeginnings
 mod MergeCarries
 mod MergeTurning
 mod Numbers
 mod PinFollows
+mod PinSeats
+mod PinTurning
 mod PortKeeping
 mod Reaching
 mod RoleKeeping

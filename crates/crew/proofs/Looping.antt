@@ -15,7 +15,7 @@ use Rattle.store_core.specs.Ports.{with_entries}
 use Rattle.store_core.specs.declared.shards.ShardId.{ShardId}
 use Rattle.store_core.specs.Histories.{History}
 use Rattle.crew_core.specs.KeepingOn.{KeepsOn}
-use Rattle.crew_core.specs.Working.{IsWorkersEntry, Role, as_collector, as_compactor, as_writer}
+use Rattle.crew_core.specs.Working.{IsWorkersEntry, Role, as_collector, as_compactor, as_follower, as_pin, as_writer}
 use Rattle.crew_core.proofs.Keeping.{on_both, on_same}
 use Rattle.crew.specs.declared.ends.WorkerEnd.{WorkerEnd}
 use Rattle.crew.specs.declared.ends.WorkerEnd.TheVariants as ends
@@ -197,3 +197,5 @@ pub stopped_means : (role : Role) (shard : ShardId) (client : ℕ) (front : Opti
 stopped_means (as_writer appends) shard client front = tt
 stopped_means as_compactor shard client front = tt
 stopped_means as_collector shard client front = tt
+stopped_means as_pin shard client front = tt
+stopped_means (as_follower count) shard client front = tt

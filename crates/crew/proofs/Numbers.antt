@@ -59,6 +59,15 @@ less a b h = grind (arith, nat_tests)
 at_least : (a b : ℕ) → nat_lt a b ≡ false → b ≤ a
 at_least a b h = grind (arith, nat_tests)
 
+equal : (a b : ℕ) → a ≡ b → (a == b) ≡ true
+equal a b h = grind (arith, nat_tests)
+
+not_same : (a b : ℕ) → a ≡ b → nat_lt a b ≡ true → ⊥
+not_same a b e h = grind (arith, nat_tests)
+
+not_apart : (a b : ℕ) → a ≡ b → (a == b) ≡ false → ⊥
+not_apart a b e h = let t : (a == b) ≡ true = equal a b e in cc
+
 not_least : (a : ℕ) → nat_le 0 a ≡ true
 not_least a = grind (arith, nat_tests)
 
@@ -125,7 +134,7 @@ module _ (plan : Plan) (worker : ℕ) where
       by (at h g) = rw g (sym (same worker (first_of plan) g))
       by (past h g) = rw (g, h) (rw (beyond_none worker (first_of plan) h g, beyond worker (first_of plan) h g) refl)
 
-  pin_at : is_pin (job_of plan worker) ≡ true → worker ≡ first_of plan
+  pub pin_at : is_pin (job_of plan worker) ≡ true → worker ≡ first_of plan
   pin_at e = by (place_of plan worker)
     where
       by : Place plan worker → worker ≡ first_of plan
@@ -136,6 +145,17 @@ module _ (plan : Plan) (worker : ℕ) where
       by (at h g) = same worker (first_of plan) g
       by (past h g) =
           absurd (let bad : false ≡ true = rw (not_short worker plan.writers plan.compactors h, h, g) at e in cc)
+
+  pub pin_job : worker ≡ first_of plan → is_pin (job_of plan worker) ≡ true
+  pin_job is = by (place_of plan worker)
+    where
+      by : Place plan worker → is_pin (job_of plan worker) ≡ true
+      by (before h) = absurd (not_same worker (first_of plan) is h)
+      by (at h g) = rw (not_short worker plan.writers plan.compactors h, h, g) refl
+      by (past h g) = absurd (not_apart worker (first_of plan) is g)
+
+  pub client_first : worker ≡ first_of plan → client_of plan worker ≡ 0
+  client_first is = rw (equal worker (first_of plan) is) refl
 
 pub next_first : (plan : Plan) → next_of plan 0 ≡ 1
 next_first plan = rw (not_least (first_of plan)) refl

@@ -1,14 +1,13 @@
--- A pin with no open command follows past all that comes to a history. Entries go newest first.
-use Rattle.std.proofs.Common.{◌≡◌, ◌≢◌, ◌⊎◌, ℕ, Option, Some, None, true, false, List, [], ◌∷◌, ◌++◌, inl, inr, sym, ap, subst, ◌∙◌}
+-- A pin with no open command follows past all that comes to a history, and the one that a crew leaves follows. Entries go newest first.
+use Rattle.std.proofs.Common.{◌≡◌, ◌≢◌, ◌⊎◌, ◌<◌, ℕ, zero, suc, Option, None, true, false, List, [], ◌∷◌, ◌++◌, inl, inr}
+use Rattle.std.proofs.Common.{refl, sym, subst, ◌∙◌}
 use Rattle.std.proofs.Common.{arith}
-use Rattle.std.specs.Prelude.{◌==◌, reverse}
+use Rattle.std.specs.Prelude.{◌==◌}
 use Rattle.store_core.specs.declared.entries.Entry.{Entry}
 use Rattle.store_core.specs.Histories.{History}
 use Rattle.store_core.specs.Stores.{Stored}
 use Rattle.store_core.specs.Ports.{GrowsByOthers}
 use Rattle.history_core.specs.declared.read_answers.ReadAnswer.{ReadAnswer}
-use Rattle.history_core.proofs.LawfulLaws.{turned}
-use Rattle.history_core.proofs.Prefixes.{prefix_lawful}
 use Rattle.state_core.proofs.ListLemmas.{bool_cases}
 use Rattle.machine_core.proofs.Polls.{others_where}
 use Rattle.read_client.specs.declared.readers.Reader.{Reader}
@@ -16,7 +15,8 @@ use Rattle.read_client.specs.Following.{Follows, FollowsWhere}
 use Rattle.read_client.specs.Machining.{machine}
 use Rattle.read_client.proofs.Machining.{keeps, not_open}
 use Rattle.crew.specs.declared.plans.Plan.{Plan}
-use Rattle.crew.specs.Crews.{CrewRanOn}
+use Rattle.crew.specs.declared.ends.WorkerEnd.{WorkerEnd}
+use Rattle.crew.specs.Crews.{LeavesPin}
 use Rattle.std.proofs.lemmas.Bool.Decides.{nat_tests}
 
 same : (a b : ℕ) → (a == b) ≡ true → a ≡ b
@@ -29,7 +29,7 @@ differs a b e h = let t : (a == b) ≡ true = itself a b h in let bad : false �
     itself a b h = grind (arith, nat_tests)
 
 module _ (client : ℕ) (pin : Reader) (idle : pin.asked ≡ None) (start : Stored) where
-  past : (es more : List Entry) → Follows client pin start es → Follows client pin start (more ++ es)
+  pub past : (es more : List Entry) → Follows client pin start es → Follows client pin start (more ++ es)
   past es [] f = f
   past es (e ∷ more) f = elim (bool_cases (e.client == client)) [
     | inl t ↦ keeps.spared_follows client pin start e [] (more ++ es) (not_open pin.asked idle) tt (same e.client client t) tt
@@ -37,16 +37,22 @@ module _ (client : ℕ) (pin : Reader) (idle : pin.asked ≡ None) (start : Stor
     | inr t ↦ keeps.others_follow client pin start (e ∷ []) (more ++ es) (differs e.client client t, tt) (past es more f)
   ]
 
-pub pin_follows : (plan : Plan) (client : ℕ) (pin : Reader) (front now : Option History) → pin.asked ≡ None →
-    CrewRanOn plan front now → FollowsWhere client front pin → FollowsWhere client now pin
-pin_follows plan client pin None now idle ran f = subst (λ (h : Option History). FollowsWhere client h pin) (sym ran) tt
-pin_follows plan client pin (Some h) now idle (after, is, ran) f =
-    subst (λ (g : Option History). FollowsWhere client g pin) (sym (is ∙ ap Some ran.now_is)) (λ list st l.
-    subst (Follows client pin h.start) (sym (turned h ran.gain))
-    (past client pin idle h.start (reverse h.trail) (reverse ran.gain) (f list st (prefix_lawful h ran.gain l))))
+-- the pin that a crew leaves follows: where there are no collectors it is the one that was handed in, and else what is left of it does
+pub pin_by : (plan : Plan) (pin end : Reader) (before now : Option History) (ends : List WorkerEnd) →
+    (plan.collectors ≡ 0 → GrowsByOthers 0 before now) → ((plan.collectors ≡ 0) ⊎ (pin.asked ≢ None) → end ≡ pin) →
+    (0 < plan.collectors → pin.asked ≡ None → LeavesPin plan now end ends) →
+    (plan.collectors ≡ 0) ⊎ (pin.asked ≡ None) → FollowsWhere 0 before pin → FollowsWhere 0 now end
+pin_by plan pin end before now ends others kept left why f = elim why [
+  | inl none ↦ unmoved none
+  | inr idle ↦ by plan.collectors refl idle
+]
+  where
+    unmoved : plan.collectors ≡ 0 → FollowsWhere 0 now end
+    unmoved none = subst (FollowsWhere 0 now) (sym (kept (inl none)))
+        (others_where Reader ReadAnswer machine keeps 0 before now pin f (others none))
 
--- without collectors it follows whatever is open
-pub pin_by : (plan : Plan) (pin : Reader) (before now : Option History) → (plan.collectors ≡ 0 → GrowsByOthers 0 before now) →
-    CrewRanOn plan before now → (plan.collectors ≡ 0) ⊎ (pin.asked ≡ None) → FollowsWhere 0 before pin → FollowsWhere 0 now pin
-pin_by plan pin before now others ran (inl none) f = others_where Reader ReadAnswer machine keeps 0 before now pin f (others none)
-pin_by plan pin before now others ran (inr idle) f = pin_follows plan 0 pin before now idle ran f
+    by : (n : ℕ) → plan.collectors ≡ n → pin.asked ≡ None → FollowsWhere 0 now end
+    by zero e idle = unmoved e
+    by (suc n) e idle =
+        let some : 0 < plan.collectors = (let is : plan.collectors ≡ suc n = e in omega arith) in
+        (left some idle).2.follows.follows

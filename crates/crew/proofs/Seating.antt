@@ -1,7 +1,8 @@
 -- What a worker's work makes of its seat.
 use Rattle.std.proofs.Common.{◌⊎◌, inl, inr, ◌≡◌, ℕ, ◌+◌, ◌<◌, zero, suc, cond, Bool, true, false, Option, Some, None, List, [], ◌∷◌}
 use Rattle.std.proofs.Common.{◌++◌, length, refl, sym, ap, subst, ◌∙◌, arith}
-use Rattle.std.specs.Prelude.{◌==◌, IfSome, IsSome}
+use Rattle.std.specs.List.{AllByRecursion}
+use Rattle.std.specs.Prelude.{◌==◌, IfSome, IsSome, get_or}
 use Rattle.std.proofs.lemmas.Bool.Decides.{nat_tests}
 use Rattle.state_core.proofs.ListLemmas.{bool_cases}
 use Rattle.turnstile.specs.declared.views.View.{View}
@@ -237,3 +238,9 @@ seen_then u v (Some p) a b = record {
   kin = b.kin ∙ a.kin;
   gain = b.gain ∙ a.gain;
 }
+
+-- what holds of all holds of the one at a place
+pub all_at : {A : Type 0} (P : A → Type 0) (xs : List A) (i : ℕ) (x : A) → i < length xs → x ≡ get_or xs i x → AllByRecursion P xs → P x
+all_at P [] i x less is h = absurd (omega arith)
+all_at P (y ∷ xs) zero x less is h = subst P (sym is) h.0
+all_at P (y ∷ xs) (suc i) x less is h = all_at P xs i x (omega arith) is h.1

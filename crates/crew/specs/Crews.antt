@@ -1,5 +1,5 @@
 -- What a crew makes of its store. docs/DEFINITIONS.md, "Crews that run".
-use Rattle.std.specs.Prelude.{◌≡◌, ℕ, Option, Some, None, List, ◌∷◌, ◌++◌, reverse}
+use Rattle.std.specs.Prelude.{◌≡◌, ℕ, ◌<◌, Option, Some, None, List, ◌∷◌, ◌++◌, reverse, length, get_or}
 use Rattle.update_core.specs.declared.updates.Update.{Update}
 use Rattle.update_core.specs.Collections.{Collection as PlainCollection}
 use Rattle.store_core.specs.declared.entries.Entry.{Entry}
@@ -9,8 +9,11 @@ use Rattle.history_core.specs.Discipline.{Lawful}
 use Rattle.history_core.specs.Stands.{StandsFor}
 use Rattle.crew_core.specs.Competing.{HasAppended, HasCollection, HasReader}
 use Rattle.crew_core.specs.Working.{IsWorkersEntry}
+use Rattle.read_client.specs.declared.readers.Reader.{Reader}
+use Rattle.crew.specs.declared.ends.WorkerEnd.{WorkerEnd}
 use Rattle.crew.specs.declared.plans.Plan.{Plan}
-use Rattle.crew.specs.Plans.{role_in}
+use Rattle.crew.specs.Pinning.{IsPinLeft}
+use Rattle.crew.specs.Plans.{first_of, role_in}
 
 -- The history that a crew left begins with the one that it found. Where that is lawful and its start stands for a list, so is what it
 -- left; each new entry is a worker's; and at each place the collection has, past what it had, the first few of the appends from its
@@ -35,3 +38,13 @@ pub record CrewRan (plan : Plan) (before now : History) : Type 0 where
 abbrev pub CrewRanOn : Plan → Option History → Option History → Type 0
 CrewRanOn plan None now = now ≡ None
 CrewRanOn plan (Some before) now = (after : History) × (now ≡ Some after) × CrewRan plan before after
+
+-- the end of the worker of this number
+pub record IsEndOf (worker : ℕ) (ends : List WorkerEnd) (end : WorkerEnd) : Type 0 where
+  pub within : worker < length ends
+  pub there : end ≡ get_or ends worker end
+
+-- What a crew with collectors leaves of its pin: it follows as client 0, and no command of it is open, but a renewal may be where the
+-- first collector ended early.
+abbrev pub LeavesPin : Plan → Option History → Reader → List WorkerEnd → Type 0
+LeavesPin plan now pin ends = (end : WorkerEnd) × IsEndOf (first_of plan) ends end × IsPinLeft plan.shard 0 now pin end

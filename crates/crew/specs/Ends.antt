@@ -16,12 +16,14 @@ use Rattle.history_core.specs.declared.collect_answers.CollectAnswer.{CollectAns
 use Rattle.history_core.specs.declared.merge_answers.MergeAnswer.{MergeAnswer}
 use Rattle.history_core.specs.declared.merge_answers.MergeAnswer.TheVariants as merges
 use Rattle.history_core.specs.Laws.{LastIs}
-use Rattle.history_core.specs.Legal.{Command, LegalWriteBack}
+use Rattle.history_core.specs.declared.read_answers.ReadAnswer.{ReadAnswer}
+use Rattle.history_core.specs.declared.read_answers.ReadAnswer.TheVariants as reads
+use Rattle.history_core.specs.Legal.{Command, LegalReadBack, LegalWriteBack}
 use Rattle.history_core.specs.Upkeep.{LegalCollectBack, LegalMergeBack}
 use Rattle.load_core.specs.Fronts.{Backwards, WhereLawful}
 use Rattle.appends_core.specs.Feeds.{end_of_feed}
 use Rattle.crew_core.specs.Completing.{IsBound}
-use Rattle.crew_core.specs.Working.{Role, as_collector, as_compactor, as_writer}
+use Rattle.crew_core.specs.Working.{Role, as_collector, as_compactor, as_follower, as_pin, as_writer}
 use Rattle.crew.specs.declared.ends.WorkerEnd.{WorkerEnd}
 use Rattle.crew.specs.declared.ends.WorkerEnd.TheVariants as ends
 
@@ -136,8 +138,59 @@ CollectorMeans shard client front (ends.Heavy weight) = ⊥
 CollectorMeans shard client front ends.Spent = ⊥
 CollectorMeans shard client front _ = ⊤
 
+-- Of the one that works as the pin's client the same, but that its renewals may be told that no number is left.
+abbrev pub PinMeans : ShardId → ℕ → Option History → WorkerEnd → Type 0
+PinMeans shard client front ends.Spent = ⊤
+PinMeans shard client front end = CollectorMeans shard client front end
+
+-- what a follower of a crew may ask: that it opens, a listen and its next steps, that it closes
+abbrev pub AsksToFollow : Asked → Type 0
+AsksToFollow (asks.OpenReader shard now lease) = ⊤
+AsksToFollow (asks.Listen as_of) = ⊤
+AsksToFollow asks.Next = ⊤
+AsksToFollow asks.CloseReader = ⊤
+AsksToFollow _ = ⊥
+
+-- the answer is legal to such a command of this client
+pub record IsReadAnswered (shard : ShardId) (client : ℕ) (answer : ReadAnswer) (start : Stored) (es : List Entry)
+    (list : List Update) : Type 0 where
+  pub command : Command
+  pub client_is : command.client ≡ client
+  pub shard_is : command.shard ≡ shard
+  pub may : AsksToFollow command.asked
+  pub legal : LegalReadBack list start es command answer
+
+-- what ends a listen: that nothing more has come, that nothing will, that what it asks for is gone
+abbrev pub EndsListen : ReadAnswer → Type 0
+EndsListen (reads.Quiet upper) = ⊤
+EndsListen reads.Ended = ⊤
+EndsListen (reads.Early since) = ⊤
+EndsListen _ = ⊥
+
+-- a step was answered so
+abbrev pub WasHeardOut : ShardId → ℕ → Stored → List Entry → List Update → Type 0
+WasHeardOut shard client start es list = (answer : ReadAnswer) × EndsListen answer × IsReadAnswered shard client answer start es list
+
+-- it has closed, and at some place until then its listen has ended
+pub record HasFollowed (shard : ShardId) (client : ℕ) (start : Stored) (es : List Entry) (list : List Update) : Type 0 where
+  pub version : ℕ
+  pub closed : IsReadAnswered shard client (reads.Closed version) start es list
+  pub heard : Once (WasHeardOut shard client) start es list
+
+-- Of a follower: finished, that a step of its listen was answered Quiet, Ended or Early, and that it has closed since; MembersFull, that
+-- this answer was legal. It is no misfit, and nothing of it is too heavy.
+abbrev pub FollowerMeans : ShardId → ℕ → Option History → WorkerEnd → Type 0
+FollowerMeans shard client front ends.Finished = WhereLawful shard front (Backwards (Once (HasFollowed shard client)))
+FollowerMeans shard client front (ends.MembersFull version) =
+    WhereLawful shard front (Backwards (Once (IsReadAnswered shard client (reads.MembersFull version))))
+FollowerMeans shard client front (ends.Misfit upper) = ⊥
+FollowerMeans shard client front (ends.Heavy weight) = ⊥
+FollowerMeans shard client front _ = ⊤
+
 -- what an end says, by what the worker is for
 abbrev pub EndMeans : Role → ShardId → ℕ → Option History → WorkerEnd → Type 0
 EndMeans (as_writer appends) shard client front end = WriterMeans appends shard client front end
 EndMeans as_compactor shard client front end = CompactorMeans shard client front end
 EndMeans as_collector shard client front end = CollectorMeans shard client front end
+EndMeans as_pin shard client front end = PinMeans shard client front end
+EndMeans (as_follower count) shard client front end = FollowerMeans shard client front end

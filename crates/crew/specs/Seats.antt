@@ -1,5 +1,7 @@
 -- Seats of a crew, each with a worker's pass.
-use Rattle.std.specs.Prelude.{⊤, ◌≡◌, ℕ, ◌+◌, ◌<◌, true, false, if◌then◌else◌, Option, Some, None, IfSome, List, [], ◌∷◌, length}
+use Rattle.std.specs.Prelude.{⊤, ◌≡◌, ◌⊎◌, is_some, ℕ, ◌+◌, ◌<◌, true, false, if◌then◌else◌, Option, Some, None, IfSome, List}
+use Rattle.std.specs.Prelude.{[], ◌∷◌, length}
+use Rattle.std.specs.List.{AllByRecursion}
 use Rattle.update_core.specs.declared.appends.FeedAppend.{FeedAppend}
 use mathlib.Core.List.{IsPrefix}
 use Rattle.turnstile.specs.declared.views.View.{View}
@@ -13,7 +15,9 @@ use Rattle.store_core.specs.declared.shards.ShardId.{ShardId}
 use Rattle.store_core.specs.Histories.{History}
 use Rattle.store_core.specs.Ports.{with_entries}
 use Rattle.shared_store.specs.declared.counted_stores.CountedStore.{CountedStore}
+use Rattle.shared_store.specs.Fronts.{front_of}
 use Rattle.shared_store.specs.Passes.{told_of}
+use Rattle.read_client.specs.declared.readers.Reader.{Reader}
 use Rattle.shared_store.specs.Trails.{entry_client}
 use Rattle.crew_core.specs.Keeping.{Keeps}
 use Rattle.crew_core.specs.Working.{IsWorkersEntry, Role, is_pin, role_of}
@@ -24,7 +28,8 @@ use Rattle.crew.specs.declared.seats.Seat.{Seat}
 use Rattle.crew.specs.declared.plans.Plan.{Plan}
 use Rattle.crew.specs.Ends.{EndMeans}
 use Rattle.crew.specs.Looping.{EndShown, LastFailed}
-use Rattle.crew.specs.Plans.{client_of, job_in, job_of}
+use Rattle.crew.specs.Plans.{client_of, first_of, job_in, job_of}
+use Rattle.crew.specs.Pinning.{IsPinLeft, IsPinOf}
 use Rattle.crew.specs.Posts.{opened}
 use Rattle.crew.specs.Stops.{stop_of}
 
@@ -52,6 +57,28 @@ AllEndAs plan worker (e ∷ more) h gain =
 abbrev pub EndsOn : Plan → Option History → Option History → List WorkerEnd → Type 0
 EndsOn plan before now ends =
     (h : History) (gain : List Entry) → before ≡ Some h → now ≡ Some (with_entries h gain) → AllEndAs plan 0 ends h gain
+
+-- no seat has the pin; some seat has it
+abbrev pub HaveNone : List (Option Reader) → Type 0
+HaveNone pins = AllByRecursion (λ pin. pin ≡ None) pins
+
+abbrev pub HasPin : List (Option Reader) → Type 0
+HasPin [] = ⊥
+HasPin (pin ∷ more) = (is_some pin ≡ true) ⊎ HasPin more
+
+-- The seats are those of the workers from this one on: no other than that of the pin's client has it, with no command open, and it
+-- follows.
+abbrev pub PinsIdle : Plan → Option History → ℕ → List (Option Reader) → Type 0
+PinsIdle plan front worker [] = ⊤
+PinsIdle plan front worker (pin ∷ more) =
+    IfSome pin (λ r. (worker ≡ first_of plan) × ((r.asked ≡ None) × IsPinOf plan.shard 0 front r)) × PinsIdle plan front (worker + 1) more
+
+-- the same once they have ended so
+abbrev pub PinsLeft : Plan → Option History → ℕ → List (Option Reader) → List WorkerEnd → Type 0
+PinsLeft plan front worker [] ends = ⊤
+PinsLeft plan front worker (pin ∷ more) [] = ⊥
+PinsLeft plan front worker (pin ∷ more) (end ∷ ends) =
+    IfSome pin (λ r. (worker ≡ first_of plan) × IsPinLeft plan.shard 0 front r end) × PinsLeft plan front (worker + 1) more ends
 
 -- the number of a seat's pass, where this is the next one, and the next one after it
 abbrev pub own_number : Job → ℕ → ℕ
@@ -105,6 +132,18 @@ module _ {S : Type 0} {G : Ghosts S} where
     pub alone : IsAlone (view pass)
     pub keeps : KinKeeps (λ n. role_of s.job appends) shard G.history (view pass)
     pub shown : EndShown G.history (role_of s.job appends) shard s.stop (view pass) s.end
+    pub pin : IfSome s.pin (λ r. IsPinLeft shard (view pass).number (front_of G.history (view pass)) r s.end)
+
+  -- what the seats have of the pin
+  abbrev pub pins_of : List (Seat S G) → List (Option Reader)
+  pins_of [] = []
+  pins_of (s ∷ ss) = s.pin ∷ pins_of ss
+
+  -- the seat has a new pass, and its pin, where it has one, follows as the client of that
+  pub record IsReadySeat (shard : ShardId) (t : Turnstile (CountedStore S G) S Entry) (s : Seat S G) : Type 0 where
+    pub seated : IsSeated t s
+    pub pin : IfSome s.pin (λ r. (is_pin s.job ≡ true) × ((r.asked ≡ None) ×
+        IsPinOf shard (view seated.pass).number (front_of G.history (view seated.pass)) r))
 
   -- the share of a seat's pass
   abbrev pub share_in : Option (Pass (CountedStore S G) S Entry) → ℕ
@@ -163,6 +202,7 @@ module _ {S : Type 0} {G : Ghosts S} where
     pub worker : new.worker ≡ old.worker
     pub stop : new.stop ≡ old.stop
     pub job : new.job ≡ old.job
+    pub held : is_some new.pin ≡ is_some old.pin
 
   -- the pass with the view w shows what the seat's pass shows
   abbrev pub ShowsSeat : View S Entry → Seat S G → Type 0

@@ -11,6 +11,7 @@ use Rattle.turnstile.specs.Rule.{entries_by}
 use Rattle.shared_store.specs.Trails.{entry_client}
 use Rattle.crew_core.specs.KeepingOn.{KeepsOn}
 use Rattle.crew_core.specs.Working.{IsWorkersEntry, Role}
+use Rattle.crew.specs.declared.ends.WorkerEnd.{WorkerEnd}
 use Rattle.crew.specs.declared.ends.WorkerEnd.TheVariants as ends
 use Rattle.crew.specs.declared.ends.WorkerTurn.{WorkerTurn}
 use Rattle.crew.specs.declared.ends.WorkerTurn.TheVariants as turns
@@ -62,6 +63,11 @@ pub record Turned (role : Role) (shard : ShardId) (client : ℕ) (front now : Op
   pub cause : GoesOnFor client front now misses misses_now turn
   pub fault : IsMarked turn → HasFailed client front now × IsFaulted turn
   pub means : TurnMeans role shard client now turn
+
+-- R holds of a turn's end
+abbrev pub Leaves : (WorkerEnd → Type 0) → WorkerTurn → Type 0
+Leaves R turns.Again = ⊤
+Leaves R (turns.End end) = R end
 
 -- R holds after a turn in which the worker goes on
 abbrev pub ReadyAgain : Type 0 → WorkerTurn → Type 0

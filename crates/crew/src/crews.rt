@@ -1,5 +1,5 @@
 // A crew: workers that share one store, each in a thread of its own.
-ghost use Rattle.std.specs.Prelude.{◌≡◌, ◌≤◌, ◌⊎◌, ℕ, None, length, vec_len, IfErr, IfOk};
+ghost use Rattle.std.specs.Prelude.{◌≡◌, ◌≢◌, ◌<◌, ◌≤◌, ◌⊎◌, ℕ, None, length, vec_len, IfErr, IfOk};
 ghost use Rattle.store_core.specs.Ports.{GrowsByOthers};
 ghost use Rattle.read_client.specs.Following.{FollowsWhere};
 ghost use Rattle.turnstile.specs.Passes.{view};
@@ -7,16 +7,17 @@ ghost use Rattle.turnstile.specs.Rule.{first_view};
 ghost use Rattle.shared_store.specs.Fronts.{front_of};
 ghost use Rattle.shared_store.specs.Owners.{IsPassOfStore};
 ghost use Rattle.appends_core.specs.Feeds.{IsFeed};
-ghost use Rattle.crew.specs.Crews.{CrewRanOn};
+ghost use Rattle.crew.specs.Crews.{CrewRanOn, LeavesPin};
+ghost use Rattle.crew.specs.Pinning.{IsPinOf};
 ghost use Rattle.crew.specs.Plans.{workers_of};
-ghost use Rattle.crew.specs.Seats.{EndsOn, PlacedFrom};
+ghost use Rattle.crew.specs.Seats.{EndsOn, HasPin, HaveNone, PinsIdle, PinsLeft, PlacedFrom, pins_of};
 
 use crate::end_lists::EndList;
 use crate::ends::WorkerEnd;
 use crate::gates::Gate;
 use crate::plans::Plan;
 use crate::progress::Progress;
-use crate::seats::{Seat, deal, gather_all, sit_all};
+use crate::seats::{Seat, deal, gather_all, hand_in, hand_out, sit_all};
 use read_client::Reader;
 use shared_store::{CountedStore, SharedStore};
 use std::alloc::{AllocError, Global};
@@ -59,10 +60,13 @@ fn work_together<S: Store + Send, G: Gate + Sync, R: Threads + Wait + Sync>(
     requires count { length seats.old ≡ workers_of plan.now }
     requires room { length ends.old ≡ length seats.old }
     requires places { PlacedFrom plan.now 0 seats.old }
+    requires pins { PinsIdle plan.now (front_of S.history (view pass)) 0 (pins_of seats.old) }
     ensures ran { CrewRanOn plan.now (front_of S.history (view pass)) (S.history result) }
     ensures others { plan.now.collectors ≡ 0 → GrowsByOthers 0 (front_of S.history (view pass)) (S.history result) }
     ensures ends { EndsOn plan.now (front_of S.history (view pass)) (S.history result) ends.new }
     ensures length { length ends.new ≡ length seats.old }
+    ensures pins { PinsLeft plan.now (S.history result) 0 (pins_of seats.new) ends.new }
+    ensures held { HasPin (pins_of seats.old) → HasPin (pins_of seats.new) }
 {
     let appends = plan.appends.as_slice();
     let progress = Progress::new(plan.writers);
@@ -82,11 +86,47 @@ fn work_together<S: Store + Send, G: Gate + Sync, R: Threads + Wait + Sync>(
     shared.close(pass)
 }
 
+// The same, with the pin in the hand of its client's worker, unless a command of it is open or there are no collectors.
+fn work_with_pin<S: Store + Send, G: Gate + Sync, R: Threads + Wait + Sync>(
+    rt: &R,
+    alloc: Global,
+    shared: SharedStore<S>,
+    pass: Pass<CountedStore<S>>,
+    gate: &G,
+    plan: &Plan,
+    moment: u64,
+    pin: Reader,
+    seats: &mut [Seat<S>],
+    ends: &mut [WorkerEnd],
+) -> (S, Reader)
+    requires pass { IsPassOfStore shared pass }
+    requires first { view pass ≡ first_view (view pass).start }
+    requires feed { IsFeed plan.now.appends }
+    requires few { workers_of plan.now ≤ 64 }
+    requires count { length seats.old ≡ workers_of plan.now }
+    requires room { length ends.old ≡ length seats.old }
+    requires places { PlacedFrom plan.now 0 seats.old }
+    requires empty { HaveNone (pins_of seats.old) }
+    requires pin { 0 < plan.now.collectors → IsPinOf plan.now.shard 0 (front_of S.history (view pass)) pin }
+    ensures ran { CrewRanOn plan.now (front_of S.history (view pass)) (S.history result.0) }
+    ensures others { plan.now.collectors ≡ 0 → GrowsByOthers 0 (front_of S.history (view pass)) (S.history result.0) }
+    ensures ends { EndsOn plan.now (front_of S.history (view pass)) (S.history result.0) ends.new }
+    ensures length { length ends.new ≡ length seats.old }
+    ensures pin { (plan.now.collectors ≡ 0) ⊎ (pin.asked ≢ None) → result.1 ≡ pin }
+    ensures left { 0 < plan.now.collectors → pin.asked ≡ None → LeavesPin plan.now (S.history result.0) result.1 ends.new }
+{
+    let back = hand_in(seats, pin);
+    let store = work_together(rt, alloc, shared, pass, gate, plan, moment, seats, ends);
+    let pin = hand_out(seats, back);
+    (store, pin)
+}
+
 // A seat with no pass yet for each worker, by number.
 fn make_seats<S: Store>(alloc: Global, plan: &Plan) -> Result<Vec<Seat<S>>, AllocError>
     requires few { workers_of plan.now ≤ 64 }
     ensures count { IfOk result (λ seats. vec_len seats ≡ workers_of plan.now) }
     ensures places { IfOk result (λ seats. PlacedFrom plan.now 0 seats.items) }
+    ensures empty { IfOk result (λ seats. HaveNone (pins_of seats.items)) }
 {
     let mut seats = Vec::new(alloc);
     for worker in 0..plan.workers() {
@@ -95,6 +135,7 @@ fn make_seats<S: Store>(alloc: Global, plan: &Plan) -> Result<Vec<Seat<S>>, Allo
             job: plan.job_of(worker),
             stop: plan.stops.stop_of(worker),
             pass: None,
+            pin: None,
             end: WorkerEnd::Finished,
         })?;
     }
@@ -114,10 +155,11 @@ fn make_ends(alloc: Global, plan: &Plan) -> Result<Vec<WorkerEnd>, AllocError>
 }
 
 /// Workers try the plan's appends at the store, merge what is due and collect what lies below the floor, each in a thread of its own, until
-/// all have ended. The moment is the one at which the leases of compactors begin. Client 0, as which the pin reads, makes no call meanwhile
-/// unless there are collectors, and then those of the first one; the pin follows also afterwards, where no command of it is open or there
-/// are no collectors. The store and the pin come back as they were handed in where memory
-/// was refused before any worker started. This waits for the workers. (docs/DEFINITIONS.md, "Crews that run".)
+/// all have ended. The moment is the one at which the leases of compactors begin, and to which the pin is renewed. Client 0, as which the
+/// pin reads, makes no call meanwhile unless there are collectors, and then those of the first one, which holds the pin, a reader of the
+/// shard, and renews it before each round. The pin follows also afterwards; a renewal of it may be open where the first collector ended
+/// early. Where there are no collectors, or a command of it is open, it comes back as it was. The store and the pin come back as they were
+/// handed in where memory was refused before any worker started. This waits for the workers. (docs/DEFINITIONS.md, "Crews that run".)
 pub fn run_crew<S: Store + Send, G: Gate + Sync, R: Threads + Wait + Sync>(
     rt: &R,
     alloc: Global,
@@ -129,12 +171,15 @@ pub fn run_crew<S: Store + Send, G: Gate + Sync, R: Threads + Wait + Sync>(
 ) -> Result<CrewEnd<S>, CrewBack<S>>
     requires feed { IsFeed plan.now.appends }
     requires few { workers_of plan.now ≤ 64 }
+    requires pin { 0 < plan.now.collectors → IsPinOf plan.now.shard 0 (S.history store) pin }
     ensures ran { IfOk result (λ end. CrewRanOn plan.now (S.history store) (S.history end.store)) }
     ensures workers { IfOk result (λ end. length end.ends ≡ workers_of plan.now) }
     ensures ends { IfOk result (λ end. EndsOn plan.now (S.history store) (S.history end.store)
         end.ends) }
     ensures others { IfOk result (λ end. plan.now.collectors ≡ 0 → GrowsByOthers 0 (S.history store) (S.history end.store)) }
-    ensures pin { IfOk result (λ end. end.pin ≡ pin) }
+    ensures pin { IfOk result (λ end. (plan.now.collectors ≡ 0) ⊎ (pin.asked ≢ None) → end.pin ≡ pin) }
+    ensures left { IfOk result (λ end. 0 < plan.now.collectors → pin.asked ≡ None
+        → LeavesPin plan.now (S.history end.store) end.pin end.ends) }
     ensures follows { IfOk result (λ end. (plan.now.collectors ≡ 0) ⊎ (pin.asked ≡ None) → FollowsWhere 0 (S.history store) pin
         → FollowsWhere 0 (S.history end.store) end.pin) }
     ensures memory { IfErr result (λ back. (back.store ≡ store) × (back.pin ≡ pin)) }
@@ -149,7 +194,7 @@ pub fn run_crew<S: Store + Send, G: Gate + Sync, R: Threads + Wait + Sync>(
         Ok(made) => made,
         Err(store) => return Err(CrewBack { store, pin }),
     };
-    let store = work_together(
+    let (store, pin) = work_with_pin(
         rt,
         alloc,
         shared,
@@ -157,6 +202,7 @@ pub fn run_crew<S: Store + Send, G: Gate + Sync, R: Threads + Wait + Sync>(
         gate,
         plan,
         moment,
+        pin,
         seats.as_mut_slice(),
         ends.as_mut_slice(),
     );

@@ -7,6 +7,7 @@ mod end_lists;
 mod ends;
 mod gates;
 mod merging;
+mod pinning;
 mod plans;
 mod progress;
 mod seats;

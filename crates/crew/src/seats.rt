@@ -1,5 +1,6 @@
 // Seats of a crew.
-ghost use Rattle.std.specs.Prelude.{◌≡◌, ◌≢◌, ◌+◌, ◌*◌, ◌^◌, ◌≤◌, ◌<◌, ℕ, [], length, slice_index_or, IfNone, IfSome, IsSome};
+ghost use Rattle.std.specs.Prelude.{◌≡◌, ◌≢◌, ◌⊎◌, ◌+◌, ◌*◌, ◌^◌, ◌≤◌, ◌<◌, ℕ, [], length, slice_index_or, IfNone, IfSome};
+ghost use Rattle.std.specs.Prelude.{IsSome, None, Option, Some};
 ghost use Rattle.std.specs.List.{AllByRecursion};
 ghost use mathlib.Core.List.{IsPrefix};
 ghost use Rattle.turnstile.specs.Passes.{IsPassOf, view};
@@ -8,6 +9,10 @@ ghost use Rattle.shared_store.specs.Trails.{entry_client};
 ghost use Rattle.appends_core.specs.Feeds.{IsFeed};
 ghost use Rattle.crew.specs.declared.plans.Plan.{Plan};
 ghost use Rattle.crew.specs.Plans.{role_in};
+ghost use Rattle.state_core.specs.Lists.{Among};
+ghost use Rattle.store_core.specs.Histories.{History};
+ghost use Rattle.crew.specs.Pinning.{IsPinOf};
+ghost use Rattle.crew.specs.Seats.{HasPin, HaveNone, IsReadySeat, PinsIdle, pins_of};
 ghost use Rattle.crew.specs.Seats.{HasNumber, HasWorked, IsNew, IsPrefixOf, IsSeated, KinKeeps, NoPin, NumberedFrom, OnePin, PlacedFrom, SeenSame};
 ghost use Rattle.crew.specs.Seats.{Shows, ShowsSeat, Suits, Works, ends_of, share_in, shares_of};
 
@@ -15,8 +20,9 @@ use crate::ends::WorkerEnd;
 use crate::gates::Gate;
 use crate::plans::Plan;
 use crate::progress::Progress;
-use crate::working::{Task, work_alone};
+use crate::working::{Task, work_with};
 use crew_core::Job;
+use read_client::Reader;
 use shared_store::CountedStore;
 use std::alloc::Global;
 use std::sync::Wait;
@@ -26,13 +32,15 @@ use store_core::{ShardId, Store};
 use turnstile::{Pass, Turnstile};
 use update_core::FeedAppend;
 
-/// A worker's place in a crew: its number, what it is for, its stop number if it has one, its pass, and its end.
+/// A worker's place in a crew: its number, what it is for, its stop number if it has one, its pass, the pin if that is in
+/// its hand, and its end.
 #[derive(Drop)]
 pub struct Seat<S: Store> {
     pub(crate) worker: u32,
     pub(crate) job: Job,
     pub(crate) stop: Option<u64>,
     pub(crate) pass: Option<Pass<CountedStore<S>>>,
+    pub(crate) pin: Option<Reader>,
     pub(crate) end: WorkerEnd,
 }
 
@@ -48,7 +56,7 @@ fn sit<S: Store, G: Gate, R: Wait>(
     progress: &Progress,
     seat: &mut Seat<S>,
 )
-    requires seated { IsSeated turnstile.now seat.old }
+    requires ready { IsReadySeat shard turnstile.now seat.old }
     requires feed { IsFeed appends.now }
     ensures { Works appends.now shard turnstile.now seat.old seat.new }
 {
@@ -64,9 +72,77 @@ fn sit<S: Store, G: Gate, R: Wait>(
         moment,
         progress,
     };
-    let (pass, end) = work_alone(rt, alloc, turnstile, pass, gate, task);
+    let (pass, end) = work_with(rt, alloc, turnstile, pass, gate, task, &mut seat.pin);
     seat.pass = Some(pass);
     seat.end = end;
+}
+
+/// Puts the pin into the seat of its client, unless a command of it is open, and gives it back where no seat took it.
+pub(crate) fn hand_in<S: Store>(seats: &mut [Seat<S>], pin: Reader) -> Option<Reader>
+    requires empty { HaveNone (pins_of seats.old) }
+    ensures some { IfSome result (λ r. (r ≡ pin) × (NoPin seats.old ⊎ (pin.asked ≢ None))) }
+    ensures none { IfNone result (HasPin (pins_of seats.new) × (pin.asked ≡ None)) }
+    ensures back { NoPin seats.old → result ≡ Some pin }
+    ensures pins { (plan : Plan) (front : Option History) (worker : ℕ) → PlacedFrom plan worker seats.old
+        → NoPin seats.old ⊎ IsPinOf plan.shard 0 front pin → PinsIdle plan front worker (pins_of seats.new) }
+    ensures length { length seats.new ≡ length seats.old }
+    ensures places { (plan : Plan) (worker : ℕ) → PlacedFrom plan worker seats.old → PlacedFrom plan worker seats.new }
+{
+    if pin.busy() {
+        return Some(pin);
+    }
+    place_pin(seats, pin)
+}
+
+// Puts the pin into the seat of its client, and gives it back where there is none.
+fn place_pin<S: Store>(seats: &mut [Seat<S>], pin: Reader) -> Option<Reader>
+    requires idle { pin.asked ≡ None }
+    requires empty { HaveNone (pins_of seats.old) }
+    ensures some { IfSome result (λ r. (r ≡ pin) × NoPin seats.old) }
+    ensures none { IfNone result (HasPin (pins_of seats.new)) }
+    ensures back { NoPin seats.old → result ≡ Some pin }
+    ensures pins { (plan : Plan) (front : Option History) (worker : ℕ) → PlacedFrom plan worker seats.old
+        → NoPin seats.old ⊎ IsPinOf plan.shard 0 front pin → PinsIdle plan front worker (pins_of seats.new) }
+    ensures length { length seats.new ≡ length seats.old }
+    ensures places { (plan : Plan) (worker : ℕ) → PlacedFrom plan worker seats.old → PlacedFrom plan worker seats.new }
+{
+    let Some((first, rest)) = seats.split_first_mut() else {
+        return Some(pin);
+    };
+    if first.job.is_pin() {
+        first.pin = Some(pin);
+        return None;
+    }
+    place_pin(rest, pin)
+}
+
+/// Takes the pin out of the seat that has it, where no seat gave it back.
+pub(crate) fn hand_out<S: Store>(seats: &mut [Seat<S>], back: Option<Reader>) -> Reader
+    requires there { IfNone back (HasPin (pins_of seats.old)) }
+    ensures back { IfSome back (λ r. result ≡ r) }
+    ensures pin { IfNone back (Among (λ p. p ≡ Some result) (pins_of seats.old)) }
+{
+    if let Some(pin) = back {
+        return pin;
+    }
+    let Some(pin) = take_pin(seats) else {
+        unreachable!()
+    };
+    pin
+}
+
+// Takes the pin out of the seat that has it.
+fn take_pin<S: Store>(seats: &mut [Seat<S>]) -> Option<Reader>
+    ensures none { IfNone result (HasPin (pins_of seats.old) → ⊥) }
+    ensures some { IfSome result (λ r. Among (λ p. p ≡ Some r) (pins_of seats.old)) }
+{
+    let Some((first, rest)) = seats.split_first_mut() else {
+        return None;
+    };
+    match first.pin.take() {
+        Some(pin) => Some(pin),
+        None => take_pin(rest),
+    }
 }
 
 /// All workers work to their ends, each in a thread of its own.
@@ -81,7 +157,7 @@ pub(crate) fn sit_all<S: Store + Send, G: Gate + Sync, R: Threads + Wait + Sync>
     progress: &Progress,
     seats: &mut [Seat<S>],
 )
-    requires seated { AllByRecursion (IsSeated turnstile.now) seats.old }
+    requires ready { AllByRecursion (IsReadySeat shard turnstile.now) seats.old }
     requires feed { IsFeed appends.now }
     ensures length { length seats.new ≡ length seats.old }
     ensures worked { (i : ℕ) (d : _) → i < length seats.old
@@ -96,7 +172,7 @@ pub(crate) fn sit_all<S: Store + Send, G: Gate + Sync, R: Threads + Wait + Sync>
         seats,
         count,
         &|_: usize, seat: &mut Seat<S>|
-            requires { IsSeated turnstile.now seat.now × IsFeed appends.now }
+            requires { IsReadySeat shard turnstile.now seat.now × IsFeed appends.now }
             ensures { Works appends.entry.now shard turnstile.entry.now seat.entry.now seat.exit.now }
         {
             sit(
@@ -125,6 +201,7 @@ fn deal_one<S: Store>(
     ensures worker { seat.new.worker ≡ seat.old.worker }
     ensures stop { seat.new.stop ≡ seat.old.stop }
     ensures job { seat.new.job ≡ seat.old.job }
+    ensures pin { seat.new.pin ≡ seat.old.pin }
 {
     let Ok(other) = turnstile.split(&mut pass) else {
         unreachable!()
@@ -154,6 +231,7 @@ pub(crate) fn deal<S: Store>(
     ensures numbers { NumberedFrom (view pass).low seats.new }
     ensures length { length seats.new ≡ length seats.old }
     ensures places { (plan : Plan) (worker : ℕ) → PlacedFrom plan worker seats.old → PlacedFrom plan worker seats.new }
+    ensures pins { pins_of seats.new ≡ pins_of seats.old }
 {
     let Some((first, rest)) = seats.split_first_mut() else {
         return Some(pass);
@@ -187,6 +265,7 @@ fn take_in<S: Store>(
     ensures begins { IsPrefix (view pass.old).gain (view pass.new).gain }
     ensures prefix { IsPrefixOf (view pass.new) seat.old }
     ensures end { end.new ≡ seat.old.end }
+    ensures pin { seat.new.pin ≡ seat.old.pin }
 {
     let Some(other) = seat.pass.take() else {
         unreachable!()
@@ -217,6 +296,7 @@ pub(crate) fn gather<S: Store>(
     ensures begins { IsPrefix (view pass.old).gain (view pass.new).gain }
     ensures prefix { AllByRecursion (IsPrefixOf (view pass.new)) seats.old }
     ensures ends { ends.new ≡ ends_of seats.old }
+    ensures pins { pins_of seats.new ≡ pins_of seats.old }
 {
     let Some((first, rest)) = seats.split_first_mut() else {
         return;
@@ -249,6 +329,7 @@ pub(crate) fn gather_all<S: Store>(
     ensures theirs { AllByRecursion (ShowsSeat (view result)) seats.old }
     ensures prefix { AllByRecursion (IsPrefixOf (view result)) seats.old }
     ensures ends { ends.new ≡ ends_of seats.old }
+    ensures pins { pins_of seats.new ≡ pins_of seats.old }
 {
     match kept {
         Some(pass) => {
@@ -277,6 +358,7 @@ fn gather_from<S: Store>(
     ensures theirs { AllByRecursion (ShowsSeat (view result)) seats.old }
     ensures prefix { AllByRecursion (IsPrefixOf (view result)) seats.old }
     ensures ends { ends.new ≡ ends_of seats.old }
+    ensures pins { pins_of seats.new ≡ pins_of seats.old }
 {
     let Some((first, rest)) = seats.split_first_mut() else {
         unreachable!()

@@ -1,10 +1,9 @@
 -- Each entry of a worker leaves the collection, or appends to it the next of the feed's appends. Entries go newest first.
-use Rattle.std.proofs.Common.{◌≡◌, ℕ, ◌+◌, true, false, cond, Option, Some, None, List, [], ◌∷◌, ◌++◌, inl, inr, refl, sym, ap, subst}
+use Rattle.std.proofs.Common.{◌≡◌, ℕ, ◌+◌, false, Option, Some, List, [], ◌∷◌, ◌++◌, inl, inr, refl, sym, ap, subst}
 use Rattle.std.proofs.Common.{◌∙◌, arith, append_assoc, append-nil}
-use Rattle.std.specs.Prelude.{◌==◌, max, reverse}
+use Rattle.std.specs.Prelude.{⊤, reverse}
 use Rattle.std.specs.List.{AllByRecursion}
 use Rattle.std.proofs.lemmas.List.{reverse-reverse}
-use Rattle.std.proofs.lemmas.Bool.Decides.{nat_tests}
 use Rattle.update_core.specs.declared.updates.Update.{Update}
 use Rattle.update_core.specs.declared.appends.FeedAppend.{FeedAppend}
 use Rattle.update_core.specs.Updates.{cons, weight_of}
@@ -19,11 +18,10 @@ use Rattle.store_core.specs.Newest.{replay_back, mine_back}
 use Rattle.store_core.proofs.NewestLaws.{replay-newest, mine-newest}
 use Rattle.spine_core.specs.declared.batches.Batch.{Batch}
 use Rattle.state_core.specs.declared.kinds.Kind.{Kind}
-use Rattle.state_core.specs.declared.kinds.Kind.TheVariants.{Writer, Keeper}
-use Rattle.state_core.specs.declared.members.Member.{Member}
+use Rattle.state_core.specs.declared.kinds.Kind.TheVariants.{Writer, Reader, Keeper}
 use Rattle.state_core.specs.declared.transitions.Transition.{Transition}
 use Rattle.state_core.specs.declared.transitions.Transition.TheVariants.{Join, Leave, Merge}
-use Rattle.state_core.specs.States.{ShardState, SinceIs, greater_of, is_reader, least_since, or_least}
+use Rattle.state_core.specs.States.{ShardState, SinceIs, is_reader, least_since}
 use Rattle.state_core.specs.Steps.{Applies, init, without}
 use Rattle.version_codec.specs.Reading.{version_in}
 use Rattle.state_core.proofs.ListLemmas.{bool_cases}
@@ -41,38 +39,15 @@ use Rattle.history_core.proofs.OwnMembers.{kind_law}
 use Rattle.history_core.proofs.Quiet.{Quiet, last_stays, quiet_back}
 use Rattle.history_core.proofs.StateFacts.{state_rules}
 use Rattle.load_core.proofs.Gaining.{lawful_forth}
-use Rattle.crew_core.specs.declared.jobs.Job.{Job}
-use Rattle.crew_core.specs.declared.jobs.Job.TheVariants as jobs
 use Rattle.crew_core.specs.Competing.{HasAppended, HasCollection}
 use Rattle.appends_core.specs.Feeds.{FollowOn, from_upper, rows_of, weight_of_all}
-use Rattle.crew_core.specs.Working.{CarriesWorkers, IsOneOf, IsOwnLeave, IsOwnMerge, IsWorkersEntry, IsWorkersStep, role_of}
+use Rattle.crew_core.specs.Working.{CarriesWorkers, IsOneOf, IsOwnLeave, IsOwnMerge, IsOwnRenewal, IsWorkersEntry, IsWorkersStep, Role}
+use Rattle.crew_core.specs.Working.{as_collector, as_compactor, as_follower, as_pin, as_writer, past_first}
 use Rattle.crew_core.proofs.Accepting.{storers_law}
 use Rattle.crew_core.proofs.Commits.{Begun, Stepped, commits_there, what_commits}
+use Rattle.crew_core.proofs.Leaving.{Leaves, join_leaves, leave_holds, leave_leaves, merge_leaves, renew_leaves}
 use Rattle.appends_core.proofs.FeedSteps.{end_on, rows_on, weight_on}
 use Rattle.crew_core.proofs.FeedLaws.{found_at, rest_from}
-
--- ---- since stays where one leaves that is no reader
-
-least_without : (kind : Kind) → is_reader kind ≡ false → (n : ℕ) (ms : List Member) →
-    AllByRecursion (λ m. m.number ≡ n → m.kind ≡ kind) ms → least_since (without n ms) ≡ least_since ms
-least_without kind reads n [] all = refl
-least_without kind reads n (m ∷ ms) all = elim (bool_cases (m.number == n)) [
-  | inl t ↦
-      let kind_is : m.kind ≡ kind = all.0 (same m.number n t) in
-      let no : is_reader m.kind ≡ false = ap is_reader kind_is ∙ reads in
-      rw (t, no) (least_without kind reads n ms all.1)
-  | inr t ↦ rw t (ap (λ (o : Option ℕ). cond (is_reader m.kind) (or_least o m.since) o) (least_without kind reads n ms all.1))
-]
-  where
-    same : (a b : ℕ) → (a == b) ≡ true → a ≡ b
-    same a b h = grind (arith, nat_tests)
-
-since_same : (o : Option ℕ) (since : ℕ) → SinceIs o since → greater_of since o ≡ since
-since_same None since h = refl
-since_same (Some n) since h = let e : since ≡ n = h in rw e (itself n)
-  where
-    itself : (a : ℕ) → max a a ≡ a
-    itself a = omega arith
 
 -- ---- the collection
 
@@ -90,41 +65,6 @@ pub same_version : (o : Option (ShardState × Transition)) (s t : ShardState) (x
     (s ≡ t) × (x ≡ y)
 same_version o s t x y h g = let e : (s, x) ≡ (t, y) = cc in
     (ap (λ (p : ShardState × Transition). p.0) e, ap (λ (p : ShardState × Transition). p.1) e)
-
--- what a step leaves
-record Leaves (s : ShardState) (x : Transition) (t : ShardState) : Type 0 where
-  pub since : t.since ≡ s.since
-  pub upper : t.upper ≡ s.upper
-  pub weight : t.weight ≡ s.weight
-
-join_leaves : (s : ShardState) (x : Transition) (t : ShardState) (kind : Kind) (now lease : ℕ) → x ≡ Join kind now lease →
-    Applies s x t → Leaves s x t
-join_leaves s x t kind now lease is a = let b = subst (λ (y : Transition). Applies s y t) is a in record {
-  since = ap (λ (u : ShardState). u.since) b.makes.effect;
-  upper = ap (λ (u : ShardState). u.upper) b.makes.effect;
-  weight = ap (λ (u : ShardState). u.weight) b.makes.effect;
-}
-
-merge_leaves : (s : ShardState) (x : Transition) (t : ShardState) (member token : ℕ) (left right merged : Batch) →
-    x ≡ Merge member token left right merged → Applies s x t → Leaves s x t
-merge_leaves s x t member token left right merged is a = let b = subst (λ (y : Transition). Applies s y t) is a in record {
-  since = ap (λ (u : ShardState). u.since) b.makes.effect;
-  upper = ap (λ (u : ShardState). u.upper) b.makes.effect;
-  weight = ap (λ (u : ShardState). u.weight) b.makes.effect;
-}
-
-leave_leaves : (kind : Kind) → is_reader kind ≡ false → (s : ShardState) (x : Transition) (t : ShardState) (member : ℕ) →
-    x ≡ Leave member → SinceIs (least_since s.members) s.since →
-    AllByRecursion (λ m. m.number ≡ member → m.kind ≡ kind) s.members → Applies s x t → Leaves s x t
-leave_leaves kind reads s x t member is since kinds a =
-    let b = subst (λ (y : Transition). Applies s y t) is a in
-    let least = least_without kind reads member s.members kinds in
-    record {
-      since = ap (λ (u : ShardState). u.since) b.makes.effect ∙ ap (greater_of s.since) least
-          ∙ since_same (least_since s.members) s.since since;
-      upper = ap (λ (u : ShardState). u.upper) b.makes.effect;
-      weight = ap (λ (u : ShardState). u.weight) b.makes.effect;
-    }
 
 -- a history of entries that go newest first
 abbrev turned : Stored → List Entry → History
@@ -144,7 +84,7 @@ own_kind kind start shard list es st l c member joined n s last =
     (subst (λ (q : Stored). LastIs q shard n s) (sym (replay-newest start h.trail ∙ ap (replay_back start) back)) last)
 
 -- the collection of the entries before a step
-before_step : (shard : ShardId) (list : List Update) (start : Stored) (es : List Entry) (n : ℕ) (s : ShardState) →
+pub before_step : (shard : ShardId) (list : List Update) (start : Stored) (es : List Entry) (n : ℕ) (s : ShardState) →
     LastIs (replay_back start es) shard n s → (now : PlainCollection) → HasCollection list start shard es now →
     now ≡ collection_in (accepted shard list start es) s
 before_step shard list start es n s last now (inl k) = absurd (none_there shard ((replay_back start es).logs shard) n s k.0 last.1)
@@ -223,6 +163,19 @@ merges_stay shard list start e es st l k n to member token left right merged exp
 
     not_first : Begun shard list start e es → ⊥
     not_first b = b.after k n expected
+
+-- a writer's appends are the feed's
+abbrev pub IsFeeds : List FeedAppend → Role → Type 0
+IsFeeds appends (as_writer mine) = mine ≡ appends
+IsFeeds appends _ = ⊤
+
+-- since stays where a follower's reader leaves
+abbrev pub Spares : (shard : ShardId) (list : List Update) (start : Stored) (e : Entry) (es : List Entry) → Stepped shard list start e es →
+    Role → Type 0
+Spares shard list start e es s (as_follower count) =
+    (left : ℕ) → JoinedAs Reader (past_first count (mine_back start es e.client)) shard left →
+    SinceIs (least_since (without left s.from.members)) s.from.since
+Spares shard list start e es s _ = ⊤
 
 module _ (appends : List FeedAppend) (follow : FollowOn (Some 0) appends) (shard : ShardId) (list : List Update)
     (first : PlainCollection) where
@@ -349,32 +302,45 @@ module _ (appends : List FeedAppend) (follow : FollowOn (Some 0) appends) (shard
         (merge_leaves s.from s.step s.to m.member m.token m.left m.right m.merged m.step_is s.applies)
         (merge_adds_none shard list start e es m.member m.token m.left m.right m.merged s m.step_is) c
 
-    -- by what a worker's step is
-    steps : (s : Stepped shard list start e es) (job : Job) → IsWorkersStep (role_of job appends) shard own s.step → Come start es →
-        Come start (e ∷ es)
-    steps s jobs.Write (inl j) c = joins_one Writer 0 0 s j c
-    steps s jobs.Write (inr (inl leave)) c = leaves_one Writer refl s leave c
-    steps s jobs.Write (inr (inr o)) c = appends_one s o c
-    steps s jobs.Merge (inl (now, lease, j)) c = joins_one Keeper now lease s j c
-    steps s jobs.Merge (inr (inl leave)) c = leaves_one Keeper refl s leave c
-    steps s jobs.Merge (inr (inr m)) c = merges_one s m c
-    steps s jobs.Collect bad c = absurd bad
-    steps s jobs.Pin bad c = absurd bad
+    renews_one : (s : Stepped shard list start e es) → IsOwnRenewal shard own s.step → Come start es → Come start (e ∷ es)
+    renews_one s (member, now, is, joined) c = leaves s (renew_leaves s.from s.step s.to member now is s.applies)
+        (subst (λ (y : Transition). appended_by (replay_back start es) (Some (s.to, y)) ≡ []) (sym is) refl) c
 
-    pub come_on : (job : Job) → IsWorkersEntry (role_of job appends) shard start es e → Come start es → Come start (e ∷ es)
-    come_on job p c = elim (bool_cases (commits_on shard (replay_back start es) e.call e.outcome)) [
+    -- it commits the leave of a reader that no other holds since for
+    reader_leaves : (s : Stepped shard list start e es) (left : ℕ) → s.step ≡ Leave left →
+        SinceIs (least_since (without left s.from.members)) s.from.since → Come start es → Come start (e ∷ es)
+    reader_leaves s left is since c = leaves s (leave_holds s.from s.step s.to left is since s.applies)
+        (subst (λ (y : Transition). appended_by (replay_back start es) (Some (s.to, y)) ≡ []) (sym is) refl) c
+
+    -- by what a worker's step is
+    steps : (s : Stepped shard list start e es) (role : Role) → IsFeeds appends role → Spares shard list start e es s role →
+        IsWorkersStep role shard own s.step → Come start es → Come start (e ∷ es)
+    steps s (as_writer mine) feeds spares (inl j) c = joins_one Writer 0 0 s j c
+    steps s (as_writer mine) feeds spares (inr (inl leave)) c = leaves_one Writer refl s leave c
+    steps s (as_writer mine) feeds spares (inr (inr o)) c =
+        appends_one s (subst (λ (fs : List FeedAppend). IsOneOf fs own s.step) feeds o) c
+    steps s as_compactor feeds spares (inl (now, lease, j)) c = joins_one Keeper now lease s j c
+    steps s as_compactor feeds spares (inr (inl leave)) c = leaves_one Keeper refl s leave c
+    steps s as_compactor feeds spares (inr (inr m)) c = merges_one s m c
+    steps s as_collector feeds spares bad c = absurd bad
+    steps s as_pin feeds spares r c = renews_one s r c
+    steps s (as_follower count) feeds spares (inl (now, lease, j)) c = joins_one Reader now lease s j c
+    steps s (as_follower count) feeds spares (inr (left, is, joined)) c = reader_leaves s left is (spares left joined) c
+
+    pub come_on : (role : Role) → IsFeeds appends role → ((s : Stepped shard list start e es) → Spares shard list start e es s role) →
+        IsWorkersEntry role shard start es e → Come start es → Come start (e ∷ es)
+    come_on role feeds spares p c = elim (bool_cases (commits_on shard (replay_back start es) e.call e.outcome)) [
       | inr f ↦ idle f c
       | inl t ↦ elim (what_commits shard list start st e es l (commits_there start shard e es t)) [
         | inl b ↦ begun b c
         | inr s ↦ by_call s
-            (subst (λ (o : Option ℕ). CarriesWorkers (role_of job appends) shard own (calls.Cas shard o s.commit.bytes)) s.expected
-            (subst (CarriesWorkers (role_of job appends) shard own) s.commit.call_is p.carries)) c
+            (subst (λ (o : Option ℕ). CarriesWorkers role shard own (calls.Cas shard o s.commit.bytes)) s.expected
+            (subst (CarriesWorkers role shard own) s.commit.call_is p.carries)) c
       ]
     ]
       where
-        by_call : (s : Stepped shard list start e es) →
-            CarriesWorkers (role_of job appends) shard own (calls.Cas shard (Some s.number) s.commit.bytes) → Come start es →
-            Come start (e ∷ es)
+        by_call : (s : Stepped shard list start e es) → CarriesWorkers role shard own (calls.Cas shard (Some s.number) s.commit.bytes) →
+            Come start es → Come start (e ∷ es)
         by_call s (here, (to, x, written, step)) k =
             let one = same_version (version_in shard (s.number + 1) s.commit.bytes) to s.to x s.step written s.written in
-            steps s job (subst (IsWorkersStep (role_of job appends) shard own) one.1 step) k
+            steps s role feeds (spares s) (subst (IsWorkersStep role shard own) one.1 step) k

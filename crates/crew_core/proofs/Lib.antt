@@ -1,5 +1,6 @@
 mod Accepting
 mod Along
+mod Anchoring
 mod Bounds
 mod Commits
 mod Competing
@@ -7,7 +8,11 @@ mod Completing
 pub mod CrewLaws
 mod Examples
 mod FeedLaws
+mod Hearing
+mod Joining
 pub mod Keeping
+mod Leaving
+pub mod Opening
 mod Readers
 mod Splits
 mod WorkedCrew

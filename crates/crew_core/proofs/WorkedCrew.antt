@@ -26,7 +26,6 @@ use Rattle.worked_histories.proofs.WorkedVersions.{reads3, reads4, reads5}
 use Rattle.crew_core.specs.Competing.{FromWorkers, HasAppended, HasCollection}
 use Rattle.crew_core.specs.Completing.{plain_after}
 use Rattle.appends_core.specs.Feeds.{IsFeed}
-use Rattle.crew_core.specs.declared.jobs.Job.TheVariants as jobs
 use Rattle.crew_core.specs.Keeping.{Keeps}
 use Rattle.crew_core.specs.Working.{IsOneOf, IsWorkersEntry, as_writer}
 use Rattle.crew_core.proofs.Completing.{empty_law}
@@ -128,8 +127,12 @@ keeps client before after e split own list st l =
     at_three (λ (es : List Entry) (f : Entry). IsWorkersEntry (as_writer feed) the_shard empty_store (reverse ((first_calls 8).trail ++ es)) f)
     commits_early stores_late commits_late first_entry second_entry third_entry before after e split
 
-came : FromWorkers (λ n. jobs.Write) feed the_shard ((0, []) ∷ []) (first_calls 8) gain
-came = record { each_of = (omega arith, (omega arith, (omega arith, tt))); each_keeps = λ client h. keeps client }
+came : FromWorkers (λ n. as_writer feed) feed the_shard ((0, []) ∷ []) (first_calls 8) gain
+came = record {
+  each_of = (omega arith, (omega arith, (omega arith, tt)));
+  each_suits = λ client h. refl;
+  each_keeps = λ client h. keeps client;
+}
 
 last_before : LastIs (replay_back empty_store (reverse (first_calls 8).trail)) the_shard 3 state3
 last_before = (refl, (step3, rw reads3 refl))
@@ -140,7 +143,7 @@ before_is = inr (3, state3, last_before, rw accepted_before refl)
 -- the law at work: what the three calls make of the empty collection
 grown : (after : Collection) × HasCollection [] empty_store the_shard (reverse (first_calls 11).trail) after ×
     HasAppended feed empty_collection after
-grown = competing_law (λ n. jobs.Write) feed the_shard [] ((0, []) ∷ []) (first_calls 8) gain (refl, refl, (refl, refl, tt)) starts (prefixes_lawful 8) came
+grown = competing_law (λ n. as_writer feed) feed the_shard [] ((0, []) ∷ []) (first_calls 8) gain (refl, refl, (refl, refl, tt)) starts (prefixes_lawful 8) came
     empty_collection before_is
 
 last_after : LastIs (replay_back empty_store (reverse (first_calls 11).trail)) the_shard 5 state5

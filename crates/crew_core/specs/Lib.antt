@@ -3,3 +3,4 @@ pub mod Working
 pub mod KeepingOn
 pub mod Competing
 pub mod Completing
+pub mod Hearing

@@ -2,6 +2,7 @@
 ghost use Rattle.std.specs.Prelude.{◌≤◌};
 ghost use Rattle.appends_core.specs.Feeds.{IsFeed};
 
+use crate::pins::with_pin;
 use appends_core::{AppendList, is_feed};
 use crew::*;
 use read_client::Reader;
@@ -171,12 +172,12 @@ fn all_kinds_finish(rt: HostRuntime) -> Result<(), Fail> {
     Ok(())
 }
 
-// The second of two collectors is stopped after one call.
+// The second of two collectors is stopped before its first call: after one it might have finished, where the writer had ended before.
 #[test]
 fn a_collector_stops(rt: HostRuntime) -> Result<(), Fail> {
     let stop = Some(Stop {
         worker: 2,
-        calls: 1,
+        calls: 0,
     });
     let Some(left) = try_crew(&rt, rt.alloc(), 1, 0, 2, 20, stop)? else {
         panic!(rt; "no crew")
@@ -196,6 +197,109 @@ fn a_compactor_stops(rt: HostRuntime) -> Result<(), Fail> {
         panic!(rt; "no crew")
     };
     assert_eq!(rt; (left.finished, left.stopped), (1, 1));
+    Ok(())
+}
+
+// So many Cas calls of a client.
+fn count_cas_of(store: &MemStore, client: u64) -> usize {
+    let mut count = 0usize;
+    for entry in store.trail() {
+        if entry.client == client {
+            if let Call::Cas { .. } = &entry.call {
+                count = count.saturating_add(1);
+            }
+        }
+    }
+    count
+}
+
+// A crew whose pin has joined: how many of the pin's client's Cas calls there are, and whether a command of the pin is open.
+fn try_pinned<R: Threads + Wait + Sync>(
+    rt: &R,
+    alloc: Global,
+    plan: &Plan,
+) -> Result<Option<(Left, usize, bool)>, Fail> {
+    if !is_feed(&plan.appends) {
+        return Ok(None);
+    }
+    if plan.writers > 20 {
+        return Ok(None);
+    }
+    if plan.compactors > 20 {
+        return Ok(None);
+    }
+    if plan.collectors > 20 {
+        return Ok(None);
+    }
+    let store = MemStore::new(alloc, FaultList::new(alloc));
+    let Some((store, pin)) = with_pin(alloc, store, plan.shard) else {
+        return Ok(None);
+    };
+    match run_crew(rt, alloc, store, plan, pin, 7, &OpenGate) {
+        Ok(end) => Ok(Some((left_by(&end), count_cas_of(&end.store, 0), end.pin.busy()))),
+        Err(_) => Ok(None),
+    }
+}
+
+// The first collector renews the pin, whose client has made the first version and joined before, and leaves no command of it open.
+#[test]
+fn a_pin_is_renewed(rt: HostRuntime) -> Result<(), Fail> {
+    let plan = Plan {
+        shard: ShardId(1),
+        appends: appends_of(rt.alloc(), 10)?,
+        writers: 1,
+        compactors: 1,
+        collectors: 1,
+        stops: StopList::new(rt.alloc()),
+    };
+    let Some((left, cas, busy)) = try_pinned(&rt, rt.alloc(), &plan)? else {
+        panic!(rt; "no crew")
+    };
+    assert_eq!(rt; (left.finished, left.stopped), (3, 0));
+    assert!(rt; cas > 2);
+    assert!(rt; !busy);
+    Ok(())
+}
+
+// Without collectors the pin isn't renewed.
+#[test]
+fn a_pin_rests_without_collectors(rt: HostRuntime) -> Result<(), Fail> {
+    let plan = Plan {
+        shard: ShardId(1),
+        appends: appends_of(rt.alloc(), 2)?,
+        writers: 1,
+        compactors: 0,
+        collectors: 0,
+        stops: StopList::new(rt.alloc()),
+    };
+    let Some((left, cas, busy)) = try_pinned(&rt, rt.alloc(), &plan)? else {
+        panic!(rt; "no crew")
+    };
+    assert_eq!(rt; (left.finished, cas, busy), (1, 2, false));
+    Ok(())
+}
+
+// The first collector is stopped before its first call, and gives the pin back.
+#[test]
+fn a_stopped_collector_gives_the_pin_back(rt: HostRuntime) -> Result<(), Fail> {
+    let mut stops = StopList::new(rt.alloc());
+    stops.push(Stop {
+        worker: 0,
+        calls: 0,
+    })?;
+    let plan = Plan {
+        shard: ShardId(1),
+        appends: AppendList::new(rt.alloc()),
+        writers: 0,
+        compactors: 0,
+        collectors: 1,
+        stops,
+    };
+    let Some((left, cas, busy)) = try_pinned(&rt, rt.alloc(), &plan)? else {
+        panic!(rt; "no crew")
+    };
+    assert_eq!(rt; (left.finished, left.stopped), (0, 1));
+    assert_eq!(rt; (cas, busy), (2, false));
     Ok(())
 }
 

@@ -3,3 +3,5 @@
 
 #[cfg(test)]
 mod crews;
+#[cfg(test)]
+mod pins;

@@ -25,13 +25,13 @@ use Rattle.feed_text.specs.declared.replies.RunReply.TheVariants as replies
 use Rattle.driving.specs.Drives.{Answered, Going}
 use Rattle.driving.specs.Goings.{Goes}
 use Rattle.driving.proofs.GoingLaws.{Between, going_so}
-use Rattle.plain_run.specs.Answering.{Closed, Replies, read_reply}
+use Rattle.plain_run.specs.Answering.{Closed, Replies, StillSettled, read_reply}
 use Rattle.plain_run.specs.PlainRuns.{View, listen_text, since_reply, snapshot_text, view_since}
 use Rattle.plain_run.specs.Sessions.{QuietSince, ViewAt}
 use Rattle.plain_run.proofs.DriveLaws.{lawful_last, unmoved}
 use Rattle.plain_run.proofs.Quietly.{quiet_view}
 use Rattle.plain_run.proofs.Refused.{scan_absent, scan_listen, scan_since, scan_snapshot}
-use Rattle.plain_run.proofs.SettledLaws.{leave_closes}
+use Rattle.plain_run.proofs.SettledLaws.{leave_closes, quiet_settled}
 use Rattle.plain_run.proofs.Views.{advances_since}
 use Rattle.plain_run.proofs.SessionLaws.{all_quiet}
 use Rattle.store_core.specs.declared.shards.ShardId.{ShardId}
@@ -142,6 +142,63 @@ module _ (shard : ShardId) (client : ℕ) where
         go (reads.MembersFull version) list start es now b x = absurd x.legal.0
         go (reads.Rows rows) list start es now b x = absurd x.legal.0
         go (reads.Late upper) list start es now b x = absurd x.legal.0
+        go (reads.Advanced version) list start es now b x = absurd x.legal.0
+        go (reads.Back since) list start es now b x = absurd x.legal.0
+        go (reads.Renewed version) list start es now b x = absurd x.legal.0
+        go (reads.Closed version) list start es now b x = absurd x.legal.0
+
+    -- ---- what was settled while it reads
+
+    -- nothing was committed
+    settles : (list : List Update) (start : Stored) (es now before : List Entry) (e : Entry) (calls : ℕ) → Between shard list start es now →
+        Going shard client start es before calls → e.client ≡ client → now ≡ e ∷ before → CommitsNone (reply (replay_back start before) e) →
+        StillSettled shard number list start es now
+    settles list start es now before e calls b g own split none = λ view v.
+        quiet_settled shard list start client es now (calls + 1) (seen list start es now before e calls number view b g own split none v).0
+
+    pub snapshots_settle : (t : ℕ) (answer : ReadAnswer) → Goes shard a d
+        (Answered read.machine client (reading shard number listen tried (asks.Snapshot t)) answer) → Goes shard a d (StillSettled shard number)
+    snapshots_settle t answer went =
+        going_so shard a d (Read answer) (StillSettled shard number) went (λ list start es now b x. go answer list start es now b x)
+      where
+        Read : ReadAnswer → List Update → Stored → List Entry → List Entry → Type 0
+        Read answer list start es now = Answered read.machine client (reading shard number listen tried (asks.Snapshot t)) answer list start es now
+
+        go : (answer : ReadAnswer) (list : List Update) (start : Stored) (es now : List Entry) → Between shard list start es now →
+            Read answer list start es now → StillSettled shard number list start es now
+        go (reads.Rows rows) list start es now b x = settles list start es now x.before x.entry x.calls b x.going x.own x.split x.effect.effect
+        go (reads.Early since) list start es now b x = settles list start es now x.before x.entry x.calls b x.going x.own x.split x.effect.effect
+        go (reads.Late upper) list start es now b x = settles list start es now x.before x.entry x.calls b x.going x.own x.split x.effect.effect
+        go (reads.Expired version) list start es now b x = settles list start es now x.before x.entry x.calls b x.going x.own x.split x.effect.effect
+        go (reads.Step from to rows) list start es now b x = absurd x.legal.0
+        go (reads.Quiet upper) list start es now b x = absurd x.legal.0
+        go reads.Ended list start es now b x = absurd x.legal.0
+        go (reads.Opened member version since) list start es now b x = absurd x.legal.0
+        go (reads.MembersFull version) list start es now b x = absurd x.legal.0
+        go (reads.Advanced version) list start es now b x = absurd x.legal.0
+        go (reads.Back since) list start es now b x = absurd x.legal.0
+        go (reads.Renewed version) list start es now b x = absurd x.legal.0
+        go (reads.Closed version) list start es now b x = absurd x.legal.0
+
+    pub listens_settle : (t : ℕ) (answer : ReadAnswer) → Goes shard a d
+        (Answered read.machine client (reading shard number listen tried (asks.Listen t)) answer) → Goes shard a d (StillSettled shard number)
+    listens_settle t answer went =
+        going_so shard a d (Read answer) (StillSettled shard number) went (λ list start es now b x. go answer list start es now b x)
+      where
+        Read : ReadAnswer → List Update → Stored → List Entry → List Entry → Type 0
+        Read answer list start es now = Answered read.machine client (reading shard number listen tried (asks.Listen t)) answer list start es now
+
+        go : (answer : ReadAnswer) (list : List Update) (start : Stored) (es now : List Entry) → Between shard list start es now →
+            Read answer list start es now → StillSettled shard number list start es now
+        go (reads.Rows rows) list start es now b x = absurd x.legal.0
+        go (reads.Early since) list start es now b x = settles list start es now x.before x.entry x.calls b x.going x.own x.split x.effect.effect
+        go (reads.Late upper) list start es now b x = absurd x.legal.0
+        go (reads.Expired version) list start es now b x = settles list start es now x.before x.entry x.calls b x.going x.own x.split x.effect.effect
+        go (reads.Step from to rows) list start es now b x = settles list start es now x.before x.entry x.calls b x.going x.own x.split x.effect.effect
+        go (reads.Quiet upper) list start es now b x = settles list start es now x.before x.entry x.calls b x.going x.own x.split x.effect.effect
+        go reads.Ended list start es now b x = settles list start es now x.before x.entry x.calls b x.going x.own x.split x.effect.effect
+        go (reads.Opened member version since) list start es now b x = absurd x.legal.0
+        go (reads.MembersFull version) list start es now b x = absurd x.legal.0
         go (reads.Advanced version) list start es now b x = absurd x.legal.0
         go (reads.Back since) list start es now b x = absurd x.legal.0
         go (reads.Renewed version) list start es now b x = absurd x.legal.0

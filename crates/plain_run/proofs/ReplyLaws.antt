@@ -149,24 +149,29 @@ module _ (place : Place) where
   member_read old begun new listen asked answer reply b over is =
       over.member ∙ read_keeps begun.member answer reply is ∙ ap (λ (k : read.Kept). k.member) b.kept ∙ sym b.had
 
-  -- a session after a reader's command that was answered with a reply
-  pub ready_read : (now next : ℕ) (a d : Option History) (writer : Writer) (old begun new : Reader) (listen : Option (Option ℕ)) (asked : Asked)
-      (answer : ReadAnswer)
-      (reply : RunReply) → Ready a (record { place = place; writer = writer; reader = old; now = now; next = next }) → Begun old begun listen asked → GrowsBy place.reader a d →
-      read.Ended (read.kept begun) answer new → readers.IsSound new → reader_following.FollowsWhere place.reader d new → read_reply answer ≡ Ok reply →
-      Ready d (record { place = place; writer = writer; reader = new; now = now; next = next })
-  ready_read now next a d writer old begun new listen asked answer reply ready b by over sound follows is = record {
+  -- a reader after a command that was answered with a reply
+  pub reader_read : (a d : Option History) (old begun new : Reader) (listen : Option (Option ℕ)) (asked : Asked) (answer : ReadAnswer)
+      (reply : RunReply) → ReaderReady place.shard place.reader a old → Begun old begun listen asked → read.Ended (read.kept begun) answer new →
+      readers.IsSound new → reader_following.FollowsWhere place.reader d new → read_reply answer ≡ Ok reply →
+      ReaderReady place.shard place.reader d new
+  reader_read a d old begun new listen asked answer reply ready b over sound follows is = record {
+    shard = over.shard ∙ ap (λ (k : read.Kept). k.shard) b.kept;
+    sound = sound;
+    follows = follows;
+    free = over.asked;
+    member = subst (λ (m : Option ℕ). IsSome m) (sym (member_read old begun new listen asked answer reply b over is)) ready.member;
+  }
+
+  -- a session whose reader has made the entries that came, and is ready again
+  pub ready_again : (now next : ℕ) (a d : Option History) (writer : Writer) (old new : Reader) →
+      Ready a (record { place = place; writer = writer; reader = old; now = now; next = next }) → GrowsBy place.reader a d →
+      ReaderReady place.shard place.reader d new → Ready d (record { place = place; writer = writer; reader = new; now = now; next = next })
+  ready_again now next a d writer old new ready by again = record {
     apart = ready.apart;
     above_writer = ready.above_writer;
     above_reader = ready.above_reader;
     writer = writer_waits ready.apart a d writer by ready.writer;
-    reader = record {
-      shard = over.shard ∙ ap (λ (k : read.Kept). k.shard) b.kept;
-      sound = sound;
-      follows = follows;
-      free = over.asked;
-      member = subst (λ (m : Option ℕ). IsSome m) (sym (member_read old begun new listen asked answer reply b over is)) ready.reader.member;
-    };
+    reader = again;
   }
 
   -- a reply of a reader's command

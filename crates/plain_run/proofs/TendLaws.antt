@@ -1,5 +1,5 @@
 -- What the calls of the line `compact` come to in a session. Entries go newest first.
-use Rattle.std.proofs.Common.{◌≡◌, ◌≢◌, ℕ, ◌+◌, ◌<◌, ◌≤◌, Option, Some, Result, Ok, Err, List, ◌∷◌, refl, sym, ap, subst, ◌∙◌, arith}
+use Rattle.std.proofs.Common.{◌≡◌, ◌≢◌, ℕ, ◌+◌, ◌<◌, ◌≤◌, Option, Some, Result, Ok, Err, List, ◌∷◌, refl, sym, ap, subst, ◌∙◌, arith, inr}
 use Rattle.std.specs.Prelude.{IsSome, unwrap_or}
 use Rattle.update_core.specs.declared.updates.Update.{Update}
 use Rattle.store_core.specs.declared.shards.ShardId.{ShardId}
@@ -32,7 +32,7 @@ use Rattle.plain_run.specs.declared.places.Place.{Place}
 use Rattle.plain_run.specs.declared.session_faults.SessionFault.{SessionFault}
 use Rattle.plain_run.specs.declared.session_faults.SessionFault.TheVariants as faults
 use Rattle.plain_run.specs.declared.sessions.Session.{Session}
-use Rattle.plain_run.specs.Answering.{AnswersLine, ReaderReady, Ready, Tends, TendsTo, number_of, renewed}
+use Rattle.plain_run.specs.Answering.{AnswersLine, Closed, ReaderReady, Ready, Tends, TendsTo, number_of, renewed}
 use Rattle.plain_run.specs.Drives.{Failed}
 use Rattle.plain_run.specs.PlainRuns.{View}
 use Rattle.plain_run.specs.Sessions.{ViewAt}
@@ -43,7 +43,7 @@ use Rattle.plain_run.proofs.Quietly.{quiet_view}
 use Rattle.plain_run.proofs.ReadLaws.{reading, stands_still}
 use Rattle.plain_run.proofs.ReplyLaws.{Begun, failed_more, writer_waits}
 use Rattle.plain_run.proofs.SessionLaws.{all_quiet, waits}
-use Rattle.plain_run.proofs.SettledLaws.{quiet_settled, step_settled}
+use Rattle.plain_run.proofs.SettledLaws.{leave_closes, quiet_settled, step_settled}
 
 module _ (place : Place) where
   -- ---- one after the other
@@ -189,6 +189,13 @@ module _ (shard : ShardId) (client : ℕ) (a d : Option History) where
         quiet_view shard list start client es now (x.calls + 1) reader view q v,
         quiet_settled shard list start client es now (x.calls + 1) q,
       ))
+
+  -- what is accepted stays, whether a reader stands or not
+  pub collects_closed : (asked : Option Asked) (answer : CollectAnswer) →
+      Goes shard a d (Answered collecting client (collected asked) answer) → Goes shard a d (Closed shard (Ok tt))
+  collects_closed asked answer went =
+      going_so shard a d (Answered collecting client (collected asked) answer) (Closed shard (Ok tt)) went
+      (λ list start es now b x. leave_closes shard client list start es now x.before x.entry x.calls b x.going x.split 0 (inr x.effect.none))
 
 module _ (place : Place) where
   -- ---- as the session's code makes them

@@ -129,6 +129,11 @@ Replies shard reader wanted after (Ok reply) list start es now =
 Replies shard reader wanted after (Err faults.Damaged) list start es now = (view : View) → ViewAt shard list start es reader view → ⊥
 Replies shard reader wanted after (Err fault) list start es now = Failed shard fault start es now
 
+-- where the run had a view, settled batches stay so
+abbrev pub StillSettled : ShardId → ℕ → List Update → Stored → List Entry → List Entry → Type 0
+StillSettled shard reader list start es now =
+    (view : View) → ViewAt shard list start es reader view → StaysSettled shard (replay_back start es) (replay_back start now)
+
 -- the same of a line; after `compact` the batches are settled
 abbrev pub AnswersLine : ShardId → ℕ → FeedLine → Result RunReply SessionFault → List Update → Stored → List Entry → List Entry → Type 0
 AnswersLine shard reader line (Ok reply) list start es now =

@@ -5,13 +5,14 @@ ghost use Rattle.update_core.specs.Limits.{most};
 ghost use Rattle.driving.specs.StoreTurns.{StoreFailed};
 ghost use Rattle.driving.specs.Goings.{Goes, GrowsBy};
 ghost use Rattle.feed_text.specs.declared.feed_lines.FeedLine.TheVariants as lines;
-ghost use Rattle.plain_run.specs.Answering.{AnswersLine, Ready, Tends, TendsTo, number_of, renewed};
+ghost use Rattle.plain_run.specs.Answering.{AnswersLine, Closed, Ready, Tends, TendsTo, number_of, renewed};
 ghost use Rattle.plain_run.specs.Compacting.{CompactorReady, LeavesKeeper, MakesCompactor, MergesAll, MergesNext, compactor_let_in, keeper_of, merge_made};
 ghost use Rattle.plain_run.specs.Settling.{GetsSettled};
 
 use crate::drives::{drive_collector, drive_compactor, drive_reader};
+use crate::readings::LEASE;
 use crate::session_faults::SessionFault;
-use crate::sessions::{LEASE, Session};
+use crate::sessions::Session;
 use driving::SolePort;
 use feed_text::RunReply;
 use history_core::{MergeAnswer, ReadAnswer};
@@ -145,8 +146,8 @@ fn leave<S: Store>(
     Ok(())
 }
 
-// What is due is merged, by a compactor that calls as this client, joins, and leaves in the end.
-fn merge_all<S: Store>(
+/// What is due is merged, by a compactor that calls as this client, joins, and leaves in the end.
+pub fn merge_all<S: Store>(
     alloc: Global,
     port: &mut SolePort<S>,
     shard: ShardId,
@@ -163,14 +164,15 @@ fn merge_all<S: Store>(
     leave(alloc, &mut compactor, port, shard, client)
 }
 
-// What lies below the floor is removed, by a collector that calls as this client.
-fn collect_once<S: Store>(
+/// What lies below the floor is removed, by a collector that calls as this client.
+pub fn collect_once<S: Store>(
     alloc: Global,
     port: &mut SolePort<S>,
     shard: ShardId,
     client: u64,
 ) -> Result<(), SessionFault>
     ensures told { (reader : ℕ) → Goes shard (S.history port.old.store) (S.history port.new.store) (Tends shard reader result) }
+    ensures closes { Goes shard (S.history port.old.store) (S.history port.new.store) (Closed shard result) }
     ensures by { OnOk result (GrowsBy client (S.history port.old.store) (S.history port.new.store)) }
     ensures failed { result ≡ Err SessionFault.Store → StoreFailed (S.history port.new.store) (S.faults port.old.store) (S.faults port.new.store) }
     ensures later { S.faults port.old.store ≤ S.faults port.new.store }

@@ -10,7 +10,7 @@ use thiserror::Error;
 
 /// Why a session gives no reply.
 #[derive(Debug, Drop, Error)]
-pub(crate) enum SessionFault {
+pub enum SessionFault {
     /// Memory was refused, or a command needs more calls than can be counted.
     #[error("out of memory")]
     Memory,

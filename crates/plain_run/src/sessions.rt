@@ -7,24 +7,22 @@ ghost use Rattle.update_core.specs.Updates.{weight_of};
 ghost use Rattle.update_core.specs.Limits.{most};
 ghost use Rattle.plain_run.specs.PlainRuns.{append_reply, append_text, collection_after, is_outside, listen_text, since_reply, snapshot_text, view_since, view_with};
 ghost use Rattle.driving.specs.StoreTurns.{StoreFailed};
-ghost use Rattle.driving.specs.Goings.{Goes, GrowsBy};
-ghost use Rattle.plain_run.specs.Answering.{AreApart, Closed, Opens, OpensReader, OpensWriter, ReaderReady, Ready, Replies, WriterReady, number_of, read_reply, reader_let_in, write_reply, writer_let_in};
+ghost use Rattle.driving.specs.Goings.{Goes};
+ghost use Rattle.plain_run.specs.Answering.{AreApart, Closed, Opens, OpensWriter, ReaderReady, Ready, Replies, WriterReady, number_of, write_reply, writer_let_in};
 
 use crate::collections::first_outside;
-use crate::drives::{drive_reader, drive_writer};
+use crate::drives::drive_writer;
 use crate::places::Place;
+use crate::readings::{advance_reader, close_reader, open_reader, read_listen, read_snapshot};
 use crate::session_faults::SessionFault;
 use driving::SolePort;
 use feed_text::RunReply;
-use history_core::{ReadAnswer, WriteAnswer};
+use history_core::WriteAnswer;
 use read_client::Reader;
 use std::alloc::Global;
 use store_core::Store;
 use update_core::FeedAppend;
 use write_client::Writer;
-
-/// How long a member with a lease is kept what it reads, from the moment that the clock told.
-pub(crate) const LEASE: u64 = 1_000_000;
 
 /// The writer and the reader of a run, where it takes place, the moment that the clock told, and the number of the next client that
 /// a line makes.
@@ -49,26 +47,6 @@ fn reply_written(answer: WriteAnswer) -> Result<RunReply, SessionFault>
     }
 }
 
-// The reply that a reader's answer to a read or a new since is.
-fn reply_read(answer: ReadAnswer) -> Result<RunReply, SessionFault>
-    ensures { result ≡ read_reply answer }
-{
-    match answer {
-        ReadAnswer::Rows(rows) => Ok(RunReply::Rows(rows)),
-        ReadAnswer::Early { since } => Ok(RunReply::Early { since }),
-        ReadAnswer::Late { upper } => Ok(RunReply::Late { upper }),
-        ReadAnswer::Step { to, rows, .. } => Ok(RunReply::Step {
-            updates: rows,
-            upper: to,
-        }),
-        ReadAnswer::Quiet { upper } => Ok(RunReply::Quiet { upper }),
-        ReadAnswer::Ended => Ok(RunReply::Ended),
-        ReadAnswer::Advanced { .. } => Ok(RunReply::Accepted),
-        ReadAnswer::Back { since } => Ok(RunReply::Back { since }),
-        _ => Err(SessionFault::Damaged),
-    }
-}
-
 // Whether the writer was let in.
 fn writer_joined(answer: WriteAnswer) -> Result<(), SessionFault>
     ensures { result ≡ writer_let_in answer }
@@ -76,17 +54,6 @@ fn writer_joined(answer: WriteAnswer) -> Result<(), SessionFault>
     match answer {
         WriteAnswer::Opened { .. } => Ok(()),
         WriteAnswer::MembersFull { .. } => Err(SessionFault::MembersFull),
-        _ => Err(SessionFault::Damaged),
-    }
-}
-
-// Whether the reader was let in.
-fn reader_joined(answer: ReadAnswer) -> Result<(), SessionFault>
-    ensures { result ≡ reader_let_in answer }
-{
-    match answer {
-        ReadAnswer::Opened { .. } => Ok(()),
-        ReadAnswer::MembersFull { .. } => Err(SessionFault::MembersFull),
         _ => Err(SessionFault::Damaged),
     }
 }
@@ -107,25 +74,6 @@ fn open_writer<S: Store>(
     let answer = drive_writer(alloc, &mut writer, port, place)?;
     writer_joined(answer)?;
     Ok(writer)
-}
-
-// A reader that has joined.
-fn open_reader<S: Store>(
-    alloc: Global,
-    port: &mut SolePort<S>,
-    place: Place,
-    now: u64,
-) -> Result<Reader, SessionFault>
-    ensures told { Goes place.shard (S.history port.old.store) (S.history port.new.store) (OpensReader place.shard result) }
-    ensures by { OnOk result (GrowsBy place.reader (S.history port.old.store) (S.history port.new.store)) }
-    ensures ready { IfOk result (ReaderReady place.shard place.reader (S.history port.new.store)) }
-    ensures failed { result ≡ Err SessionFault.Store → StoreFailed (S.history port.new.store) (S.faults port.old.store) (S.faults port.new.store) }
-    ensures later { S.faults port.old.store ≤ S.faults port.new.store }
-{
-    let mut reader = Reader::open(alloc, place.shard, now, LEASE);
-    let answer = drive_reader(alloc, &mut reader, port, place)?;
-    reader_joined(answer)?;
-    Ok(reader)
 }
 
 impl Session {
@@ -227,9 +175,7 @@ impl Session {
         ensures failed { result ≡ Err SessionFault.Store → StoreFailed (S.history port.new.store) (S.faults port.old.store) (S.faults port.new.store) }
         ensures later { S.faults port.old.store ≤ S.faults port.new.store }
     {
-        self.reader.begin_snapshot(t)?;
-        let answer = drive_reader(alloc, &mut self.reader, port, self.place)?;
-        reply_read(answer)
+        read_snapshot(alloc, &mut self.reader, port, self.place, t)
     }
 
     /// The updates after a time, up to the upper.
@@ -248,9 +194,7 @@ impl Session {
         ensures failed { result ≡ Err SessionFault.Store → StoreFailed (S.history port.new.store) (S.faults port.old.store) (S.faults port.new.store) }
         ensures later { S.faults port.old.store ≤ S.faults port.new.store }
     {
-        self.reader.begin_listen(t)?;
-        let answer = drive_reader(alloc, &mut self.reader, port, self.place)?;
-        reply_read(answer)
+        read_listen(alloc, &mut self.reader, port, self.place, t)
     }
 
     /// Moves the reader's since to this time, where that isn't below it.
@@ -269,9 +213,7 @@ impl Session {
         ensures failed { result ≡ Err SessionFault.Store → StoreFailed (S.history port.new.store) (S.faults port.old.store) (S.faults port.new.store) }
         ensures later { S.faults port.old.store ≤ S.faults port.new.store }
     {
-        self.reader.begin_advance(to)?;
-        let answer = drive_reader(alloc, &mut self.reader, port, self.place)?;
-        reply_read(answer)
+        advance_reader(alloc, &mut self.reader, port, self.place, to)
     }
 
     // The writer leaves.
@@ -303,9 +245,7 @@ impl Session {
         ensures failed { result ≡ Err SessionFault.Store → StoreFailed (S.history port.new.store) (S.faults port.old.store) (S.faults port.new.store) }
         ensures later { S.faults port.old.store ≤ S.faults port.new.store }
     {
-        self.reader.begin_close()?;
-        let _answer = drive_reader(alloc, &mut self.reader, port, self.place)?;
-        Ok(())
+        close_reader(alloc, &mut self.reader, port, self.place)
     }
 
     /// The writer leaves, and then the reader.

@@ -19,6 +19,7 @@ use Rattle.try_machine.specs.Tryers as tryers
 use Rattle.write_client.specs.declared.writers.Writer.{Writer}
 use Rattle.write_client.specs.Machining as writes
 use Rattle.write_client.specs.Writing as writers
+use Rattle.write_client.proofs.Machining as write_laws
 use Rattle.reclock_client.specs.declared.courses.Course.{Course}
 use Rattle.reclock_client.specs.declared.looks.Look.{Look}
 use Rattle.reclock_client.specs.Commands.{Next, after_poll}
@@ -83,10 +84,22 @@ writer_moved m new r poll over (s, tried, asked, moves, is, comes, after) = ap (
 
 pub writer_over : (client : ℕ) (front now : Option History) (old new : Writer) (answered : WriteAnswer → Next) (c next : Course)
     (poll : Poll WriteAnswer) → next ≡ (after_poll answered c poll).0 → Polled writes.machine client front now old new poll →
-    (next ≡ c) ⊎ (new.asked ≡ None)
-writer_over client front now old new answered c next polls.Busy e p = inl e
-writer_over client front now old new answered c next polls.More e p = inl e
-writer_over client front now old new answered c next polls.Fault e p = inl e
+    ((next ≡ c) × (new.asked ≡ old.asked)) ⊎ (new.asked ≡ None)
+writer_over client front now old new answered c next polls.Busy e p = inl (
+  e,
+  ap (λ (k : writes.Kept). k.asked)
+      (polled_kept Writer WriteAnswer writes.machine write_laws.keeps client front now old new polls.Busy tt p),
+)
+writer_over client front now old new answered c next polls.More e p = inl (
+  e,
+  ap (λ (k : writes.Kept). k.asked)
+      (polled_kept Writer WriteAnswer writes.machine write_laws.keeps client front now old new polls.More tt p),
+)
+writer_over client front now old new answered c next polls.Fault e p = inl (
+  e,
+  ap (λ (k : writes.Kept). k.asked)
+      (polled_kept Writer WriteAnswer writes.machine write_laws.keeps client front now old new polls.Fault tt p),
+)
 writer_over client front now old new answered c next polls.Spent e p = inr (writer_moved p.ready new p.reply polls.Spent tt p.moves)
 writer_over client front now old new answered c next (polls.Damaged d) e p =
     inr (writer_moved p.ready new p.reply (polls.Damaged d) tt p.moves)

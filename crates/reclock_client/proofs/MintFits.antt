@@ -37,6 +37,11 @@ all_at t had seen a (suc k) = pick (nat_lt (offset had a) (offset seen a)) (all_
     pick true h = ((refl, h.0), omega (arith, h.1))
     pick false h = (h.0, omega (arith, h.1))
 
+-- the rows of a mint are at its time
+pub rises_at : (t : ℕ) (had seen : List ℕ) → AllByRecursion (λ u. u.time ≡ t) (rises t had seen)
+unfolding partitions
+rises_at t had seen = (all_at t had seen 0 256).0
+
 covers_before : (u t : ℕ) → u ≤ t → covers (after t) u ≡ true
 covers_before u t h = pick (nat_lt t (2 ^ 64 - 1)) refl
   where

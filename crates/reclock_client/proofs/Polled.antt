@@ -26,16 +26,22 @@ use Rattle.reclock_client.specs.declared.looks.Look.{Look}
 use Rattle.reclock_client.specs.declared.operators.Operator.{Operator}
 use Rattle.reclock_client.specs.declared.steps.Part.{Part}
 use Rattle.reclock_client.specs.declared.steps.Part.TheVariants as parts
-use Rattle.reclock_client.specs.Commands.{IfDone, IsForth, Next, after_data_writer, after_poll, after_reader, after_remap_writer, published_from}
+use Rattle.reclock_client.specs.Asking.{InTurn}
+use Rattle.reclock_client.specs.Commands.{IfDone, IsForth, Next, after_data_writer, after_poll, after_reader, after_remap_writer}
+use Rattle.reclock_client.specs.Commands.{published_from}
 use Rattle.reclock_client.specs.Looking as looks
 use Rattle.reclock_client.specs.Looking.{looking}
 use Rattle.reclock_client.specs.Operators.{Follows, IsOpen, IsSound, Settles, part_of}
 use Rattle.reclock_client.specs.Polling.{Comes, Inner, PolledBy, UnpolledBy, counted}
+use Rattle.reclock_client.specs.Turns.{AtStep}
 use Rattle.reclock_client.proofs.LookRule as look_laws
 use Rattle.reclock_client.proofs.Passing.{passed_memory, passed_poll}
 use Rattle.reclock_client.proofs.Endings.{look_over, polled_shard, reader_over, unpolled_shard, writer_over}
 use Rattle.reclock_client.proofs.Standing.{data_begun, data_follows, data_polled, look_follows, looker_begun, looker_polled, read_follows}
 use Rattle.reclock_client.proofs.Standing.{reader_goes_on, reader_polled, remap_begun, remap_follows, remap_polled}
+use Rattle.reclock_client.proofs.Turned.{data_still, data_turned, look_turned, read_still, read_turned, remap_still, remap_turned}
+use Rattle.reclock_client.proofs.OwnPolls.{data_own_left, data_own_polled, look_own_polled, read_own_left, read_own_polled}
+use Rattle.reclock_client.proofs.OwnPolls.{remap_own_left, remap_own_polled}
 
 -- what holds anyway holds where memory is refused
 pub on_err : (A : Type 0) (r : Result A AllocError) (P : Type 0) → P → OnErr r P
@@ -71,15 +77,17 @@ comes mid c n calls q next e count = (λ i. record mid { course = (e i).0; calls
 pub record Came (client : ℕ) (front now : Option History) (o new : Operator) (q : Poll ClockAnswer) : Type 0 where
   pub polled : PolledBy (part_of o.course.step) client front now o new q
   pub sound : IsSound new
+  pub turn : InTurn new
   pub follows : Follows client now new
 
 pub record Left (client : ℕ) (front now : Option History) (o new : Operator) : Type 0 where
   pub memory : UnpolledBy (part_of o.course.step) client front now o new
   pub sound : IsSound new
+  pub turn : InTurn new
   pub follows : Follows client now new
 
 module _ (client : ℕ) (front now : Option History) (o : Operator) (s : IsSound o) (busy : IsSome o.course.errand)
-    (taken : o.course.intake ≡ intakes.Nothing) (f : Follows client front o) where
+    (taken : o.course.intake ≡ intakes.Nothing) (f : Follows client front o) (t : InTurn o) where
   pub remap_came : (w : Writer) (p : Poll WriteAnswer) (c : Course) (n : ℕ) (q : Poll ClockAnswer) →
       part_of o.course.step ≡ parts.RemapWriter → IsOpen o (part_of o.course.step) →
       Inner writes.machine client front now o.remap_writer w p → FollowsWhere writes.machine client now w → writers.IsSound w →
@@ -94,11 +102,16 @@ module _ (client : ℕ) (front now : Option History) (o : Operator) (s : IsSound
         comes (record o { remap_writer = w }) c n (counted p o.calls w.storing.trying.calls) q
             (after_poll (after_remap_writer o.course o.course.step) o.course p) e count,
       ) in
+      let now_sound : IsSound (record o { remap_writer = w; course = c; calls = n }) = remap_polled o s busy w c n turn sound
+      (shard ∙ s.machines.writes_remap) (settles taken s.course)
+      (writer_over client front now o.remap_writer w (after_remap_writer o.course o.course.step) o.course c p
+      (ap (λ (x : Next). x.0) e) i.polled) in
+      let at : AtStep (record o { remap_writer = w; course = c; calls = n }) =
+      remap_turned client front now o t.0 busy w p c n i.polled (ap (λ (x : Next). x.0) e) in
       record {
         polled = subst (λ (x : Part). PolledBy x client front now o (record o { remap_writer = w; course = c; calls = n }) q) (sym turn) it;
-        sound = remap_polled o s busy w c n turn sound (shard ∙ s.machines.writes_remap) (settles taken s.course)
-            (writer_over client front now o.remap_writer w (after_remap_writer o.course o.course.step) o.course c p
-            (ap (λ (x : Next). x.0) e) i.polled);
+        sound = now_sound;
+        turn = (at, remap_own_polled client front now o s t.1 c n w p turn i.polled (ap (λ (x : Next). x.0) e) now_sound at);
         follows = remap_follows client front now o s f c n w turn here
             (passed_poll Writer WriteAnswer writes.machine client front now o.remap_writer w p i.polled) own;
       }
@@ -112,6 +125,7 @@ module _ (client : ℕ) (front now : Option History) (o : Operator) (s : IsSound
       record {
         memory = subst (λ (x : Part). UnpolledBy x client front now o (record o { remap_writer = w })) (sym turn) (refl, u);
         sound = remap_begun o s busy w o.course.step o.calls turn turn sound (shard ∙ s.machines.writes_remap);
+        turn = (remap_still client front now o t.0 busy w u, remap_own_left client front now o s t.1 o.course o.calls w u);
         follows = remap_follows client front now o s f o.course o.calls w turn here
             (passed_memory Writer WriteAnswer writes.machine client front now o.remap_writer w u) own;
       }
@@ -130,11 +144,16 @@ module _ (client : ℕ) (front now : Option History) (o : Operator) (s : IsSound
         comes (record o { data_writer = w }) c n (counted p o.calls w.storing.trying.calls) q
             (after_poll (after_data_writer o.course o.course.step) o.course p) e count,
       ) in
+      let now_sound : IsSound (record o { data_writer = w; course = c; calls = n }) = data_polled o s busy w c n turn sound
+      (shard ∙ s.machines.writes_data) (settles taken s.course)
+      (writer_over client front now o.data_writer w (after_data_writer o.course o.course.step) o.course c p
+      (ap (λ (x : Next). x.0) e) i.polled) in
+      let at : AtStep (record o { data_writer = w; course = c; calls = n }) =
+      data_turned client front now o t.0 busy w p c n i.polled (ap (λ (x : Next). x.0) e) in
       record {
         polled = subst (λ (x : Part). PolledBy x client front now o (record o { data_writer = w; course = c; calls = n }) q) (sym turn) it;
-        sound = data_polled o s busy w c n turn sound (shard ∙ s.machines.writes_data) (settles taken s.course)
-            (writer_over client front now o.data_writer w (after_data_writer o.course o.course.step) o.course c p
-            (ap (λ (x : Next). x.0) e) i.polled);
+        sound = now_sound;
+        turn = (at, data_own_polled client front now o s t.1 c n w p turn i.polled (ap (λ (x : Next). x.0) e) now_sound at);
         follows = data_follows client front now o s f c n w turn here
             (passed_poll Writer WriteAnswer writes.machine client front now o.data_writer w p i.polled) own;
       }
@@ -148,6 +167,7 @@ module _ (client : ℕ) (front now : Option History) (o : Operator) (s : IsSound
       record {
         memory = subst (λ (x : Part). UnpolledBy x client front now o (record o { data_writer = w })) (sym turn) (refl, u);
         sound = data_begun o s busy w o.course.step o.calls turn turn sound (shard ∙ s.machines.writes_data);
+        turn = (data_still client front now o t.0 busy w u, data_own_left client front now o s t.1 o.course o.calls w u);
         follows = data_follows client front now o s f o.course o.calls w turn here
             (passed_memory Writer WriteAnswer writes.machine client front now o.data_writer w u) own;
       }
@@ -166,10 +186,16 @@ module _ (client : ℕ) (front now : Option History) (o : Operator) (s : IsSound
         comes (record o { reader = r }) c n (counted p o.calls r.trying.calls) q
             (after_poll (after_reader o.course o.course.step) o.course p) e count,
       ) in
+      let now_sound : IsSound (record o { reader = r; course = c; calls = n }) = reader_polled o s busy r c n turn sound
+      (shard ∙ s.machines.reads_remap) (settles taken s.course)
+      (reader_over client front now o.reader r (after_reader o.course o.course.step) o.course c p (ap (λ
+      (x : Next). x.0) e) i.polled) in
+      let at : AtStep (record o { reader = r; course = c; calls = n }) =
+      read_turned client front now o t.0 busy r p c n here i.polled (ap (λ (x : Next). x.0) e) in
       record {
         polled = subst (λ (x : Part). PolledBy x client front now o (record o { reader = r; course = c; calls = n }) q) (sym turn) it;
-        sound = reader_polled o s busy r c n turn sound (shard ∙ s.machines.reads_remap) (settles taken s.course)
-            (reader_over client front now o.reader r (after_reader o.course o.course.step) o.course c p (ap (λ (x : Next). x.0) e) i.polled);
+        sound = now_sound;
+        turn = (at, read_own_polled client front now o s t.1 c n r p turn i.polled (ap (λ (x : Next). x.0) e) now_sound at);
         follows = read_follows client front now o s f c n r turn here
             (passed_poll Reader ReadAnswer reads.machine client front now o.reader r p i.polled) own;
       }
@@ -183,6 +209,7 @@ module _ (client : ℕ) (front now : Option History) (o : Operator) (s : IsSound
       record {
         memory = subst (λ (x : Part). UnpolledBy x client front now o (record o { reader = r })) (sym turn) (refl, u);
         sound = reader_goes_on o s busy r o.calls turn sound (shard ∙ s.machines.reads_remap) (ap (λ (k : reads.Kept). k.asked) u.same);
+        turn = (read_still client front now o t.0 busy r u, read_own_left client front now o s t.1 o.course o.calls r u);
         follows = read_follows client front now o s f o.course o.calls r turn here
             (passed_memory Reader ReadAnswer reads.machine client front now o.reader r u) own;
       }
@@ -201,10 +228,15 @@ module _ (client : ℕ) (front now : Option History) (o : Operator) (s : IsSound
         comes (record o { looker = l }) c n (counted p o.calls l.trying.calls) q
             (after_poll (published_from o.course) o.course p) e count,
       ) in
+      let now_sound : IsSound (record o { looker = l; course = c; calls = n }) = looker_polled o s busy l c n turn sound
+      (shard ∙ s.machines.looks_data) (settles taken s.course)
+      (look_over client front now o.looker l (published_from o.course) o.course c p (ap (λ (x : Next). x.0) e) i.polled) in
+      let at : AtStep (record o { looker = l; course = c; calls = n }) =
+      look_turned client front now o t.0 busy l p c n turn (ap (λ (x : Next). x.0) e) in
       record {
         polled = subst (λ (x : Part). PolledBy x client front now o (record o { looker = l; course = c; calls = n }) q) (sym turn) it;
-        sound = looker_polled o s busy l c n turn sound (shard ∙ s.machines.looks_data) (settles taken s.course)
-            (look_over client front now o.looker l (published_from o.course) o.course c p (ap (λ (x : Next). x.0) e) i.polled);
+        sound = now_sound;
+        turn = (at, look_own_polled client front now o s t.1 c n l p turn i.polled (ap (λ (x : Next). x.0) e) now_sound at);
         follows = look_follows client front now o s f c n l turn here
             (passed_poll (Tryer Look) (Option ℕ) looks.machine client front now o.looker l p i.polled) own;
       }
@@ -218,6 +250,7 @@ module _ (client : ℕ) (front now : Option History) (o : Operator) (s : IsSound
       record {
         memory = subst (λ (x : Part). UnpolledBy x client front now o (record o { looker = l })) (sym turn) (refl, u);
         sound = looker_begun o s busy l o.calls turn sound (shard ∙ s.machines.looks_data);
+        turn = t;
         follows = look_follows client front now o s f o.course o.calls l turn here
             (passed_memory (Tryer Look) (Option ℕ) looks.machine client front now o.looker l u) own;
       }

@@ -24,10 +24,8 @@ use Rattle.reclock_client.specs.declared.courses.Course.{Course}
 use Rattle.reclock_client.specs.declared.errands.Errand.{Errand}
 use Rattle.reclock_client.specs.declared.looks.Look.{Look}
 use Rattle.reclock_client.specs.declared.operators.Operator.{Operator}
-use Rattle.reclock_client.specs.declared.steps.Part.{Part}
 use Rattle.reclock_client.specs.declared.steps.Part.TheVariants as parts
 use Rattle.reclock_client.specs.declared.steps.Step.{Step}
-use Rattle.reclock_client.specs.Commands.{strange}
 use Rattle.reclock_client.specs.Looking as looks
 use Rattle.reclock_client.specs.Looking.{looking}
 use Rattle.reclock_client.specs.Operators.{AreSound, Follows, IdleBy, IsChange, IsCourse, IsSound, OthersRest, Rests}
@@ -50,22 +48,6 @@ idle_of : (o : Operator) (e : Option Errand) (joined : Bool) → IdleBy o None t
 idle_of o None true rest = rest
 idle_of o None false rest = tt
 idle_of o (Some errand) joined rest = tt
-
-others_still : (o : Operator) (c : Course) (p : Part) → OthersRest o p → OthersRest (record o { course = c }) p
-others_still o c parts.RemapWriter rest = rest
-others_still o c parts.Reader rest = rest
-others_still o c parts.DataWriter rest = rest
-others_still o c parts.Looker rest = rest
-
--- a command that can't go on leaves an operator of which nothing can be asked
-pub dead : (o : Operator) (c : Course) → IsSound o → c ≡ (strange o.course).0 → IsSound (record o { course = c })
-dead o c s e = subst (λ (x : Course). let y : Operator = record o { course = x } in IsSound y) (sym e) (record {
-  machines = s.machines;
-  course = record { raise = s.course.raise; light = tt };
-  rest = others_still o (strange o.course).0 (part_of o.course.step) s.rest;
-  idle = tt;
-  leaves = s.leaves;
-})
 
 -- all machines rest
 resting : (o : Operator) → AreSound o.remap o.data_shard o.remap_writer o.reader o.data_writer o.looker → IsCourse o.course →
@@ -184,9 +166,9 @@ module _ (o : Operator) (s : IsSound o) (busy : IsSome o.course.errand) where
   -- ---- a poll: the command goes on, or its machine rests
 
   pub remap_polled : (w : Writer) (c : Course) (n : ℕ) → part_of o.course.step ≡ parts.RemapWriter → writers.IsSound w →
-      writers.shard_of w ≡ o.remap → IsCourse c → (c ≡ o.course) ⊎ (w.asked ≡ None) →
+      writers.shard_of w ≡ o.remap → IsCourse c → ((c ≡ o.course) × (w.asked ≡ o.remap_writer.asked)) ⊎ (w.asked ≡ None) →
       IsSound (record o { remap_writer = w; course = c; calls = n })
-  remap_polled w c n turn sound shard course (inl same) =
+  remap_polled w c n turn sound shard course (inl (same, still)) =
       subst (λ (x : Course). IsSound (record o { remap_writer = w; course = x; calls = n })) (sym same)
       (remap_begun w o.course.step n turn turn sound shard)
   remap_polled w c n turn sound shard course (inr idle) =
@@ -195,9 +177,9 @@ module _ (o : Operator) (s : IsSound o) (busy : IsSome o.course.errand) where
       (inl idle, rest.0, rest.1, rest.2)
 
   pub data_polled : (w : Writer) (c : Course) (n : ℕ) → part_of o.course.step ≡ parts.DataWriter → writers.IsSound w →
-      writers.shard_of w ≡ o.data_shard → IsCourse c → (c ≡ o.course) ⊎ (w.asked ≡ None) →
+      writers.shard_of w ≡ o.data_shard → IsCourse c → ((c ≡ o.course) × (w.asked ≡ o.data_writer.asked)) ⊎ (w.asked ≡ None) →
       IsSound (record o { data_writer = w; course = c; calls = n })
-  data_polled w c n turn sound shard course (inl same) =
+  data_polled w c n turn sound shard course (inl (same, still)) =
       subst (λ (x : Course). IsSound (record o { data_writer = w; course = x; calls = n })) (sym same)
       (data_begun w o.course.step n turn turn sound shard)
   data_polled w c n turn sound shard course (inr idle) =

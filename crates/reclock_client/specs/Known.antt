@@ -1,16 +1,18 @@
 -- What an operator knows is right, over the accepted updates of its remap shard.
-use Rattle.std.specs.Prelude.{◌≡◌, ◌≢◌, ℕ, ◌<◌, ◌≤◌, ◌+ℤ◌, pos, max, true, false, None, Option, List}
+use Rattle.std.specs.Prelude.{◌≡◌, ◌≢◌, ℕ, ◌<◌, ◌≤◌, ◌+ℤ◌, pos, max, true, false, None, Some, Option, List, ◌++◌}
 use Rattle.std.specs.List.{AllByRecursion}
 use Rattle.std.specs.Ordering.{is_gt}
 use Rattle.update_core.specs.declared.rows.Row.{Row}
 use Rattle.update_core.specs.declared.updates.Update.{Update}
 use Rattle.update_core.specs.Frontiers.{after, covers, frontier_cmp}
-use Rattle.update_core.specs.Updates.{moved, slice_of, sum_of}
+use Rattle.update_core.specs.Updates.{OutOf, moved, slice_of, sum_of}
 use Rattle.update_core.specs.Limits.{most}
 use Rattle.history_core.specs.declared.read_answers.ReadAnswer.TheVariants as reads
+use Rattle.remap_core.specs.declared.source_rows.SourceRow.{SourceRow}
 use Rattle.remap_core.specs.Offsets.{offset, unset}
 use Rattle.remap_core.specs.Extending.{last_time, reached, rows_at, with_rows}
-use Rattle.remap_core.specs.RemapShards.{IsBindingsOf, NeverFalls, change_at, offset_of}
+use Rattle.remap_core.specs.Reclocking.{reclocked}
+use Rattle.remap_core.specs.RemapShards.{IsBindingsOf, NeverFalls, change_at, offset_of, partition_sum}
 use Rattle.write_client.specs.declared.writers.Writer.{Writer}
 use Rattle.write_client.specs.Beginning.{range_fault}
 use Rattle.reclock_client.specs.declared.courses.Course.{Course}
@@ -58,3 +60,21 @@ MintRaises = (t : ℕ) (had seen : List ℕ) (p : ℕ) → p < 256
 abbrev pub MintFits : Type 0
 MintFits = (w : Writer) (t u : ℕ) (had seen : List ℕ) → u ≤ t → w.token ≢ most
     → range_fault w (rises t had seen) u (after t) ≡ None
+
+-- what is known stays right where more is accepted past the synced frontier
+abbrev pub KnownStays : Type 0
+KnownStays = (us more : List Update) (c : Course) → IsKnown us c → OutOf c.synced more → IsKnown (us ++ more) c
+
+-- Two operators who know one list of updates: whatever the sinces at which their readers joined, and whatever the frontiers up to which
+-- they have read, the collections of equal rows have equal sums at each time from both sinces on that both frontiers cover.
+abbrev pub CollectionsAgree : Type 0
+CollectionsAgree = (us : List Update) (a b : Course) (rows : List SourceRow) (t : ℕ) → IsKnown us a → IsKnown us b
+    → a.since ≤ t → b.since ≤ t → covers a.synced t ≡ true → covers b.synced t ≡ true
+    → sum_of (reclocked rows (known a) 0) t ≡ sum_of (reclocked rows (known b) 0) t
+
+-- where all that is accepted comes before the synced upper, the rows of a mint from there on make each partition's sum at the mint's time
+-- the greater of the sum before and the offset seen
+abbrev pub MintRaisesSums : Type 0
+MintRaisesSums = (us : List Update) (c : Course) (u t : ℕ) (seen : List ℕ) (p : ℕ) → p < 256 → IsKnown us c → c.synced ≡ Some u → u ≤ t
+    → AllByRecursion (λ x. covers (Some u) x.time ≡ true) us
+    → offset_of (partition_sum (us ++ rises t (reached (known c)) seen) p t) ≡ max (offset_of (partition_sum us p t)) (offset seen p)

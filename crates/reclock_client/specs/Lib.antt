@@ -5,6 +5,9 @@ pub mod Beginning
 pub mod Looking
 pub mod Starting
 pub mod Parts
+pub mod Turns
 pub mod Operators
 pub mod Polling
 pub mod Known
+pub mod Asking
+pub mod Proposals

@@ -1,11 +1,10 @@
 -- What one poll of an operator does: which of its inner machines is polled, and what its answer makes of where it stands.
-use Rattle.std.specs.Prelude.{◌≡◌, ◌⊎◌, ℕ, ◌+◌, min, Bool, true, false, Option, Some, None, IsSome, Result, Ok, List}
+use Rattle.std.specs.Prelude.{◌≡◌, ◌⊎◌, ℕ, ◌+◌, min, Option, Some, None, IsSome, Result, Ok, List}
 use Rattle.std.specs.declared.alloc.AllocError.{AllocError}
 use Rattle.update_core.specs.declared.updates.Update.{Update}
 use Rattle.update_core.specs.Frontiers.{after}
-use Rattle.update_core.specs.Updates.{slice_of}
 use Rattle.store_core.specs.Histories.{History}
-use Rattle.state_core.specs.declared.transitions.Transition.TheVariants.{Init}
+use Rattle.state_core.specs.declared.transitions.Transition.TheVariants.{Init, Leave}
 use Rattle.update_core.specs.Limits.{most}
 use Rattle.history_core.specs.declared.asked.Asked.TheVariants as asks
 use Rattle.history_core.specs.declared.read_answers.ReadAnswer.{ReadAnswer}
@@ -16,17 +15,16 @@ use Rattle.load_core.specs.Trying as trying
 use Rattle.machine_core.specs.Machines.{Words}
 use Rattle.machine_core.specs.Polling as machines
 use Rattle.machine_core.specs.Polling.{CostGoesOn, LegalWhere}
-use Rattle.remap_core.specs.Extending.{reached, with_rows}
-use Rattle.remap_core.specs.Reclocking.{reclocked}
+use Rattle.remap_core.specs.Extending.{with_rows}
+use Rattle.read_client.specs.Beginning.{BeginsRead, Changing}
 use Rattle.read_client.specs.Machining as reads
 use Rattle.read_client.specs.Reading as readers
 use Rattle.write_client.specs.declared.writers.Writer.{Writer}
+use Rattle.write_client.specs.Beginning.{Closing}
 use Rattle.write_client.specs.Machining as writes
 use Rattle.write_client.specs.Writing as writers
 use Rattle.reclock_client.specs.declared.clock_answers.ClockAnswer.{ClockAnswer}
 use Rattle.reclock_client.specs.declared.courses.Course.{Course}
-use Rattle.reclock_client.specs.declared.errands.Errand.{Errand}
-use Rattle.reclock_client.specs.declared.errands.Errand.TheVariants as errands
 use Rattle.reclock_client.specs.declared.intakes.Intake.TheVariants as intakes
 use Rattle.reclock_client.specs.declared.operators.Operator.{Operator}
 use Rattle.reclock_client.specs.declared.starting.Begun.{Begun}
@@ -35,12 +33,13 @@ use Rattle.reclock_client.specs.declared.steps.Part.{Part}
 use Rattle.reclock_client.specs.declared.steps.Part.TheVariants as parts
 use Rattle.reclock_client.specs.declared.steps.Step.{Step}
 use Rattle.reclock_client.specs.declared.steps.Step.TheVariants as steps
-use Rattle.reclock_client.specs.Commands.{Next, after_data_writer, after_poll, after_reader, after_remap_writer, published_from, strange}
+use Rattle.reclock_client.specs.Asking.{InTurn}
+use Rattle.reclock_client.specs.Commands.{Next, after_data_writer, after_poll, after_reader, after_remap_writer, published_from}
 use Rattle.reclock_client.specs.Looking as looks
-use Rattle.reclock_client.specs.Minting.{rises}
+use Rattle.reclock_client.specs.Minting.{mint_rows, slice_rows}
 use Rattle.reclock_client.specs.Parts.{part_of}
 use Rattle.reclock_client.specs.Reading.{Binds, left}
-use Rattle.reclock_client.specs.Starting.{LeavesReader, StartsAppend, StartsLeave, StartsRead}
+use Rattle.reclock_client.specs.Starting.{StartsAppend}
 
 -- ---- before the call
 
@@ -53,79 +52,68 @@ pub record Halts (old new : Course) : Type 0 where
   pub same : new ≡ record old { bindings = new.bindings; intake = new.intake }
   pub binds : Binds old.since old.bindings (left old.since old.intake) new.bindings new.intake
 
--- the rows of a mint from an upper on
-abbrev pub mint_rows : Course → Option Errand → Option (List Update × Option ℕ)
-mint_rows c (Some (errands.Mint t seen)) = Some (rises t (reached c.bindings) seen, after t)
-mint_rows c other = None
-
--- the rows of a publish from an upper on
-abbrev pub slice_rows : Course → Option Errand → ℕ → Option (List Update × Option ℕ)
-slice_rows c (Some (errands.Publish rows)) from = Some (slice_of (reclocked rows c.bindings 0) (Some from) c.synced, c.synced)
-slice_rows c other from = None
-
--- a writer begins to append these rows up to this frontier, where there are such
+-- a writer begins to append these rows up to this frontier
 abbrev pub BeginsAppend : Option (List Update × Option ℕ) → ℕ → Writer → Writer → Result Begun AllocError → Type 0
-BeginsAppend None from old new result = (result ≡ Ok begun.Refused) × (new ≡ old)
+BeginsAppend None from old new result = ⊥
 BeginsAppend (Some rows) from old new result = StartsAppend rows.0 from rows.1 old new result
 
--- a step of the remap shard's writer begins; where its tokens are spent it leaves, to be joined again as another
-abbrev pub RemapBegun : Begun → Operator → Operator → Bool → Type 0
-RemapBegun begun.Yes mid new is_open = (new ≡ mid) × (is_open ≡ true)
-RemapBegun begun.Refused mid new is_open = (new ≡ mid) × (is_open ≡ false)
-RemapBegun begun.Spent mid new is_open = StartsLeave mid.remap_writer new.remap_writer is_open ×
+-- an append has begun; or, where its tokens are spent, its writer leaves, to be joined again as another
+abbrev pub RemapBegun : Begun → Operator → Operator → Type 0
+RemapBegun begun.Yes mid new = new ≡ mid
+RemapBegun begun.Spent mid new = Closing mid.remap_writer new.remap_writer ×
     (new ≡ record mid { remap_writer = new.remap_writer; course = record mid.course { step = steps.LeaveRemap } })
 
-abbrev pub RemapStarts : Step → Operator → Operator → Bool → Type 0
-RemapStarts steps.JoinRemap old new is_open = (is_open ≡ true) × (new ≡ record old { remap_writer = writers.opened old.remap })
-RemapStarts (steps.AppendRemap from) old new is_open = (w : Writer) × (b : Begun) ×
-    BeginsAppend (mint_rows old.course old.course.errand) from old.remap_writer w (Ok b) × RemapBegun b (record old { remap_writer = w }) new is_open
-RemapStarts other old new is_open = StartsLeave old.remap_writer new.remap_writer is_open × (new ≡ record old { remap_writer = new.remap_writer })
+-- a step of the remap shard's writer begins
+abbrev pub RemapStarts : Step → Operator → Operator → Type 0
+RemapStarts steps.JoinRemap old new = new ≡ record old { remap_writer = writers.opened old.remap }
+RemapStarts (steps.AppendRemap from) old new = (w : Writer) × (b : Begun) ×
+    BeginsAppend (mint_rows old.course.bindings old.course.errand) from old.remap_writer w (Ok b) × RemapBegun b
+    (record old { remap_writer = w }) new
+RemapStarts other old new = Closing old.remap_writer new.remap_writer × (new ≡ record old { remap_writer = new.remap_writer })
 
 -- the same of the data shard's writer
-abbrev pub DataBegun : Begun → Operator → Operator → Bool → Type 0
-DataBegun begun.Yes mid new is_open = (new ≡ mid) × (is_open ≡ true)
-DataBegun begun.Refused mid new is_open = (new ≡ mid) × (is_open ≡ false)
-DataBegun begun.Spent mid new is_open = StartsLeave mid.data_writer new.data_writer is_open ×
+abbrev pub DataBegun : Begun → Operator → Operator → Type 0
+DataBegun begun.Yes mid new = new ≡ mid
+DataBegun begun.Spent mid new = Closing mid.data_writer new.data_writer ×
     (new ≡ record mid { data_writer = new.data_writer; course = record mid.course { step = steps.LeaveData } })
 
-abbrev pub DataStarts : Step → Operator → Operator → Bool → Type 0
-DataStarts steps.JoinData old new is_open = (is_open ≡ true) × (new ≡ record old { data_writer = writers.opened old.data_shard })
-DataStarts (steps.AppendData from) old new is_open = (w : Writer) × (b : Begun) ×
-    BeginsAppend (slice_rows old.course old.course.errand from) from old.data_writer w (Ok b) × DataBegun b (record old { data_writer = w }) new is_open
-DataStarts other old new is_open = StartsLeave old.data_writer new.data_writer is_open × (new ≡ record old { data_writer = new.data_writer })
+abbrev pub DataStarts : Step → Operator → Operator → Type 0
+DataStarts steps.JoinData old new = new ≡ record old { data_writer = writers.opened old.data_shard }
+DataStarts (steps.AppendData from) old new = (w : Writer) × (b : Begun) ×
+    BeginsAppend (slice_rows old.course.bindings old.course.synced old.course.errand from) from old.data_writer w (Ok b) × DataBegun b
+    (record old { data_writer = w }) new
+DataStarts other old new = Closing old.data_writer new.data_writer × (new ≡ record old { data_writer = new.data_writer })
 
 -- a step of the reader
-abbrev pub ReadStarts : Step → Operator → Operator → Bool → Type 0
-ReadStarts steps.JoinReader old new is_open = (is_open ≡ true) × (new ≡ record old { reader = readers.opened old.remap old.moment old.lease })
-ReadStarts steps.Snapshot old new is_open =
-    StartsRead (asks.Snapshot old.course.since) old.reader.listen old.reader new.reader is_open × (new ≡ record old { reader = new.reader })
-ReadStarts steps.Listen old new is_open =
-    StartsRead (asks.Listen old.course.since) (Some (after old.course.since)) old.reader new.reader is_open × (new ≡ record old { reader = new.reader })
-ReadStarts steps.Next old new is_open =
-    StartsRead asks.Next old.reader.listen old.reader new.reader is_open × (new ≡ record old { reader = new.reader })
+abbrev pub ReadStarts : Step → Operator → Operator → Type 0
+ReadStarts steps.JoinReader old new = new ≡ record old { reader = readers.opened old.remap old.moment old.lease }
+ReadStarts steps.Snapshot old new =
+    BeginsRead old.reader (asks.Snapshot old.course.since) old.reader.listen new.reader × (new ≡ record old { reader = new.reader })
+ReadStarts steps.Listen old new =
+    BeginsRead old.reader (asks.Listen old.course.since) (Some (after old.course.since)) new.reader ×
+    (new ≡ record old { reader = new.reader })
+ReadStarts steps.Next old new = BeginsRead old.reader asks.Next old.reader.listen new.reader × (new ≡ record old { reader = new.reader })
 -- the remap shard's writer has left: a new one, which isn't polled, takes its place
-ReadStarts other old new is_open = LeavesReader old.reader new.reader is_open ×
+ReadStarts other old new = Changing old.reader asks.CloseReader (λ member. Leave member) new.reader ×
     (new ≡ record old { remap_writer = writers.opened old.remap; reader = new.reader })
 
 -- a look
-abbrev pub LookStarts : Operator → Operator → Bool → Type 0
-LookStarts old new is_open = (is_open ≡ true) ×
-    (new ≡ record old { looker = record { trying = trying.begun old.looker.trying.loader Init; asked = Some (record {}) } })
+abbrev pub LookStarts : Operator → Operator → Type 0
+LookStarts old new =
+    new ≡ record old { looker = record { trying = trying.begun old.looker.trying.loader Init; asked = Some (record {}) } }
 
 -- the command that is next is open already, or begins
-abbrev pub Starts : Part → Operator → Operator → Bool → Type 0
-Starts parts.RemapWriter old new is_open = (IsSome old.remap_writer.asked × (new ≡ old) × (is_open ≡ true)) ⊎
-    ((old.remap_writer.asked ≡ None) × RemapStarts old.course.step old new is_open)
-Starts parts.Reader old new is_open = (IsSome old.reader.asked × (new ≡ old) × (is_open ≡ true)) ⊎
-    ((old.reader.asked ≡ None) × ReadStarts old.course.step old new is_open)
-Starts parts.DataWriter old new is_open = (IsSome old.data_writer.asked × (new ≡ old) × (is_open ≡ true)) ⊎
-    ((old.data_writer.asked ≡ None) × DataStarts old.course.step old new is_open)
-Starts parts.Looker old new is_open = (IsSome old.looker.asked × (new ≡ old) × (is_open ≡ true)) ⊎
-    ((old.looker.asked ≡ None) × LookStarts old new is_open)
+abbrev pub Starts : Part → Operator → Operator → Type 0
+Starts parts.RemapWriter old new = (IsSome old.remap_writer.asked × (new ≡ old)) ⊎
+    ((old.remap_writer.asked ≡ None) × RemapStarts old.course.step old new)
+Starts parts.Reader old new = (IsSome old.reader.asked × (new ≡ old)) ⊎ ((old.reader.asked ≡ None) × ReadStarts old.course.step old new)
+Starts parts.DataWriter old new = (IsSome old.data_writer.asked × (new ≡ old)) ⊎
+    ((old.data_writer.asked ≡ None) × DataStarts old.course.step old new)
+Starts parts.Looker old new = (IsSome old.looker.asked × (new ≡ old)) ⊎ ((old.looker.asked ≡ None) × LookStarts old new)
 
--- what is ready: the rows that were read are bound, and then the command that is next is open, unless its beginning is refused
-abbrev pub Readies : Operator → Operator → Bool → Type 0
-Readies old new is_open = Starts (part_of old.course.step) (record old { course = bound old.course }) new is_open
+-- what is ready: the rows that were read are bound, and then the command that is next is open
+abbrev pub Readies : Operator → Operator → Type 0
+Readies old new = Starts (part_of old.course.step) (record old { course = bound old.course }) new
 
 -- ---- the call
 
@@ -164,16 +152,12 @@ PolledBy parts.Looker client front front_now old new poll =
     Comes (after_poll (published_from old.course) old.course p)
     (counted p old.calls new.looker.trying.calls) (record old { looker = new.looker }) new poll
 
--- the inner machine whose step it is is polled; where its command's beginning was refused no call is made
-abbrev pub PolledIf : Bool → ℕ → Option History → Option History → Operator → Operator → Poll ClockAnswer → Type 0
-PolledIf true client front front_now ready new poll = PolledBy (part_of ready.course.step) client front front_now ready new poll
-PolledIf false client front front_now ready new poll = (front_now ≡ front) × Comes (strange ready.course) ready.calls ready new poll
-
+-- the inner machine whose step it is is polled
 pub record Polled (client : ℕ) (front front_now : Option History) (old new : Operator) (poll : Poll ClockAnswer) : Type 0 where
   pub ready : Operator
-  pub is_open : Bool
-  pub readies : Readies old ready is_open
-  pub polled : PolledIf is_open client front front_now ready new poll
+  pub readies : Readies old ready
+  pub turn : InTurn ready
+  pub polled : PolledBy (part_of ready.course.step) client front front_now ready new poll
 
 -- ---- want of memory
 
@@ -192,4 +176,4 @@ UnpolledBy parts.Looker client front front_now old new = (new ≡ record old { l
 abbrev pub Unpolled : ℕ → Option History → Option History → Operator → Operator → Type 0
 Unpolled client front front_now old new =
     ((front_now ≡ front) × Halts old.course new.course × (new ≡ record old { course = new.course })) ⊎
-    ((ready : Operator) × Readies old ready true × UnpolledBy (part_of ready.course.step) client front front_now ready new)
+    ((ready : Operator) × Readies old ready × UnpolledBy (part_of ready.course.step) client front front_now ready new)

@@ -1,37 +1,22 @@
--- How commands of an operator's inner machines begin.
-use Rattle.std.specs.Prelude.{◌≡◌, ℕ, Bool, true, false, Option, Some, None, Result, Ok, Err, List}
+-- How an append of an operator's inner writer begins.
+use Rattle.std.specs.Prelude.{⊤, ◌≡◌, ℕ, Option, Some, None, Result, Ok, Err, List}
 use Rattle.std.specs.declared.alloc.AllocError.{AllocError}
 use Rattle.update_core.specs.declared.updates.Update.{Update}
-use Rattle.state_core.specs.declared.transitions.Transition.TheVariants as steps
-use Rattle.history_core.specs.declared.asked.Asked.{Asked}
-use Rattle.history_core.specs.declared.asked.Asked.TheVariants as asks
+use Rattle.load_core.specs.declared.begin_faults.BeginFault.{BeginFault}
 use Rattle.load_core.specs.declared.begin_faults.BeginFault.TheVariants as faults
-use Rattle.read_client.specs.declared.readers.Reader.{Reader}
-use Rattle.read_client.specs.Beginning as reads
 use Rattle.write_client.specs.declared.writers.Writer.{Writer}
-use Rattle.write_client.specs.Beginning as writes
+use Rattle.write_client.specs.Beginning.{Appending, append_fault}
 use Rattle.reclock_client.specs.declared.starting.Begun.{Begun}
 use Rattle.reclock_client.specs.declared.starting.Begun.TheVariants as begun
 
--- a close is begun; or that is refused, and all is as it was
-abbrev pub StartsLeave : Writer → Writer → Bool → Type 0
-StartsLeave old new true = (writes.close_fault old ≡ None) × writes.Closing old new
-StartsLeave old new false = new ≡ old
+-- nothing stands against an append, or no more than that no token is left
+abbrev pub MayAppend : Option BeginFault → Type 0
+MayAppend None = ⊤
+MayAppend (Some faults.TokensSpent) = ⊤
+MayAppend (Some other) = ⊥
 
--- the same of an append, which may find no token left
+-- an append is begun; or no token is left for it, or memory was refused, and all is as it was
 abbrev pub StartsAppend : List Update → ℕ → Option ℕ → Writer → Writer → Result Begun AllocError → Type 0
-StartsAppend rows from to old new (Ok begun.Yes) = (writes.append_fault old rows from to ≡ None) × writes.Appending old rows from to new
-StartsAppend rows from to old new (Ok begun.Spent) = (writes.append_fault old rows from to ≡ Some faults.TokensSpent) × (new ≡ old)
-StartsAppend rows from to old new (Ok begun.Refused) = new ≡ old
+StartsAppend rows from to old new (Ok begun.Yes) = (append_fault old rows from to ≡ None) × Appending old rows from to new
+StartsAppend rows from to old new (Ok begun.Spent) = (append_fault old rows from to ≡ Some faults.TokensSpent) × (new ≡ old)
 StartsAppend rows from to old new (Err e) = new ≡ old
-
--- the same of a reading
-abbrev pub StartsRead : Asked → Option (Option ℕ) → Reader → Reader → Bool → Type 0
-StartsRead asked listen old new true = (reads.member_fault old.asked old.member ≡ None) × reads.BeginsRead old asked listen new
-StartsRead asked listen old new false = new ≡ old
-
--- and of the reader's close
-abbrev pub LeavesReader : Reader → Reader → Bool → Type 0
-LeavesReader old new true = (reads.member_fault old.asked old.member ≡ None) ×
-    reads.Changing old asks.CloseReader (λ member. steps.Leave member) new
-LeavesReader old new false = new ≡ old

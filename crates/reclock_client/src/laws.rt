@@ -1,7 +1,8 @@
 // Laws of what an operator knows, each the contract of a function that does nothing. See docs/DEFINITIONS.md, "Operators".
 ghost use Rattle.machine_core.specs.Machines.{Keeps};
 ghost use Rattle.reclock_client.specs.Looking.{machine};
-ghost use Rattle.reclock_client.specs.Known.{ContentIsKnown, MintFits, MintRaises, StepIsKnown};
+ghost use Rattle.reclock_client.specs.Known.{CollectionsAgree, ContentIsKnown, KnownStays, MintFits, MintRaises, MintRaisesSums, StepIsKnown};
+ghost use Rattle.reclock_client.specs.Proposals.{DataAppends, RemapAppends};
 
 /// After a content of the remap shard of which no row is foreign, the bindings are those of its updates.
 pub fn content_is_known()
@@ -13,15 +14,43 @@ pub fn step_is_known()
     ensures { StepIsKnown }
 {}
 
+/// And while more is accepted past the synced frontier.
+pub fn known_stays()
+    ensures { KnownStays }
+{}
+
+/// Two operators who know one remap shard: their collections of equal rows have equal sums at each time that both know.
+pub fn collections_agree()
+    ensures { CollectionsAgree }
+{}
+
 /// The rows of a mint raise each partition to the greater of what was reached and what was seen.
 pub fn mint_raises()
     ensures { MintRaises }
+{}
+
+/// So where all that the remap shard has accepted comes before the synced upper, a mint from there on makes each partition's sum the greater
+/// of the sum before and the offset seen.
+pub fn mint_raises_sums()
+    ensures { MintRaisesSums }
 {}
 
 /// Where a token is left, the append of a mint from an upper at or below its time is refused for no other reason of its own: its range
 /// isn't empty, its rows are few enough, and each is in the range.
 pub fn mint_fits()
     ensures { MintFits }
+{}
+
+/// Whatever an operator's writer of the remap shard tries to append is a mint's: it runs from an upper that isn't above the mint's time
+/// up to just after that time, and its rows are those that raise each partition to the greater of what is known and what was seen.
+pub fn remap_appends()
+    ensures { RemapAppends }
+{}
+
+/// Whatever its writer of the data shard tries to append is a publish's: it runs from an upper below the synced frontier up to that one,
+/// and its rows are those between them that the known bindings give.
+pub fn data_appends()
+    ensures { DataAppends }
 {}
 
 /// A look at a shard's upper is a machine of which all holds that a poll asks for: it may make its calls, and its answer is the upper

@@ -1,11 +1,12 @@
 // Operator: a client that binds times to a source's offsets, and publishes its rows at these times.
-ghost use Rattle.std.specs.Prelude.{◌≡◌, ◌≢◌, ◌≤◌, ◌^◌, ℕ, None, Some, Option, IfNone, IfOk, if◌then◌else◌, is_some};
-ghost use Rattle.update_core.specs.Limits.{max_weight};
+ghost use Rattle.std.specs.Prelude.{◌≡◌, ◌≢◌, ◌≤◌, ◌^◌, ℕ, None, Some, Option, IfNone, IfOk, if◌then◌else◌, is_some, length};
 ghost use Rattle.store_core.specs.Histories.{History};
 ghost use Rattle.remap_core.specs.Reclocking.{reclocked, weight_of_rows};
+ghost use Rattle.reclock_client.specs.Asking.{InTurn};
 ghost use Rattle.reclock_client.specs.Beginning.{Begins, begun, begun_sync, fault, publish_fault};
 ghost use Rattle.reclock_client.specs.Operators as operators;
 ghost use Rattle.reclock_client.specs.Operators.{Follows, IsLight, IsSound, calls_of};
+ghost use Rattle.reclock_client.specs.Turns.{HasAll, IsFew, Takes, clients, heard};
 
 use crate::courses::Course;
 use crate::errands::Errand;
@@ -74,6 +75,7 @@ impl Operator {
         requires { remap ≢ data_shard }
         ensures opened { result ≡ operators.opened remap data_shard now lease }
         ensures sound { IsSound result }
+        ensures turn { InTurn result }
         ensures follows { (client : ℕ) (front : Option History) → Follows client front result }
     {
         let course = Course {
@@ -116,7 +118,7 @@ impl Operator {
 
     /// The rows at the times that the known bindings give them, consolidated, by time and datum. It fails only for want of memory.
     pub fn collection(&self, alloc: Global, rows: &SourceList) -> Result<UpdateList, AllocError>
-        requires { weight_of_rows rows.now ≤ max_weight }
+        requires { weight_of_rows rows.now ≤ 2 ^ 62 }
         ensures { IfOk result (λ list. list ≡ reclocked rows.now self.now.course.bindings 0) }
     {
         reclocked(alloc, rows, &self.course.bindings, 0)
@@ -159,9 +161,13 @@ impl Operator {
     fn begin(&mut self, errand: Errand, step: Step)
         requires free { fault self.old ≡ None }
         requires sound { IsSound self.old }
+        requires turn { InTurn self.old }
+        requires takes { HasAll (clients self.old) → Takes (clients self.old) (heard self.old.course) errand step }
+        requires few { IsFew errand }
         requires light { IsLight (Some errand) }
         ensures begun { self.new ≡ begun self.old errand step }
         ensures sound { IsSound self.new }
+        ensures turn { InTurn self.new }
     {
         self.course.errand = Some(errand);
         self.course.step = step;
@@ -172,9 +178,11 @@ impl Operator {
     /// without Opened, the close is done, or a member was lost) or Open (a command is open); the operator is then as it was. It
     /// takes no memory.
     pub fn begin_mint(&mut self, time: u64, seen: &SourceFrontier) -> Result<(), BeginFault>
-        requires { IsSound self.old }
+        requires sound { IsSound self.old }
+        requires turn { InTurn self.old }
         ensures begins { Begins (fault self.old) self.old self.new (begun_sync self.old (Errand.Mint time seen.now)) result }
         ensures sound { IsSound self.new }
+        ensures turn { InTurn self.new }
         ensures follows { (client : ℕ) (front : Option History) → Follows client front self.old → Follows client front self.new }
     {
         if let Some(fault) = self.fault() {
@@ -187,9 +195,11 @@ impl Operator {
 
     /// Begins to read the remap shard. The faults are those of `begin_mint`. It takes no memory.
     pub fn begin_sync(&mut self) -> Result<(), BeginFault>
-        requires { IsSound self.old }
+        requires sound { IsSound self.old }
+        requires turn { InTurn self.old }
         ensures begins { Begins (fault self.old) self.old self.new (begun_sync self.old Errand.Sync) result }
         ensures sound { IsSound self.new }
+        ensures turn { InTurn self.new }
         ensures follows { (client : ℕ) (front : Option History) → Follows client front self.old → Follows client front self.new }
     {
         if let Some(fault) = self.fault() {
@@ -204,7 +214,8 @@ impl Operator {
     fn publish_fault(&self, rows: &SourceList) -> Option<BeginFault>
         ensures fault { result ≡ publish_fault self.now rows.now }
         ensures free { IfNone result (fault self.now ≡ None) }
-        ensures light { IfNone result (weight_of_rows rows.now ≤ max_weight) }
+        ensures light { IfNone result (weight_of_rows rows.now ≤ 2 ^ 62) }
+        ensures few { IfNone result (length rows.now ≤ 65536) }
     {
         if let Some(fault) = self.fault() {
             return Some(fault);
@@ -223,10 +234,12 @@ impl Operator {
     /// of `begin_mint`, the fault is TooMany (more than 65,536 rows), TooHeavy (the absolute differences sum to more than 2^62), or
     /// Memory; the operator is then as it was.
     pub fn begin_publish(&mut self, alloc: Global, rows: &SourceList) -> Result<(), BeginFault>
-        requires { IsSound self.old }
+        requires sound { IsSound self.old }
+        requires turn { InTurn self.old }
         ensures begins { Begins (publish_fault self.old rows.now) self.old self.new (begun self.old (Errand.Publish rows.now) Step.Look)
             result }
         ensures sound { IsSound self.new }
+        ensures turn { InTurn self.new }
         ensures follows { (client : ℕ) (front : Option History) → Follows client front self.old → Follows client front self.new }
     {
         if let Some(fault) = self.publish_fault(rows) {
@@ -239,9 +252,11 @@ impl Operator {
 
     /// Begins to leave. The faults are those of `begin_mint`. It takes no memory.
     pub fn begin_close(&mut self) -> Result<(), BeginFault>
-        requires { IsSound self.old }
+        requires sound { IsSound self.old }
+        requires turn { InTurn self.old }
         ensures begins { Begins (fault self.old) self.old self.new (begun self.old Errand.Close Step.LeaveRemap) result }
         ensures sound { IsSound self.new }
+        ensures turn { InTurn self.new }
         ensures follows { (client : ℕ) (front : Option History) → Follows client front self.old → Follows client front self.new }
     {
         if let Some(fault) = self.fault() {

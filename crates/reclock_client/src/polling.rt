@@ -2,6 +2,7 @@
 ghost use Rattle.std.specs.Prelude.{◌≡◌, ◌<◌, ◌≤◌, Ok, IfOk, IsSome, OnErr};
 ghost use Rattle.causes.specs.Causes.{Rose};
 ghost use Rattle.load_core.specs.declared.polls.Poll.TheVariants as polls;
+ghost use Rattle.reclock_client.specs.Asking.{InTurn};
 ghost use Rattle.reclock_client.specs.Operators.{Follows, IsOpen, IsSound};
 ghost use Rattle.reclock_client.specs.Parts.{part_of};
 ghost use Rattle.reclock_client.specs.Polling as polling;
@@ -33,9 +34,10 @@ impl Operator {
         port: &mut P,
     ) -> Result<Poll<ClockAnswer>, AllocError>
         requires open { IsOpen self.old (part_of self.old.course.step) }
-        requires turn { part_of self.old.course.step ≡ Part.RemapWriter }
+        requires part { part_of self.old.course.step ≡ Part.RemapWriter }
         requires taken { self.old.course.intake ≡ Intake.Nothing }
         requires sound { IsSound self.old }
+        requires turn { InTurn self.old }
         requires busy { IsSome self.old.course.errand }
         requires follows { Follows (P.client port.old) (P.front port.old) self.old }
         ensures polled { IfOk result (polling.PolledBy (part_of self.old.course.step) (P.client port.old) (P.front port.old) (P.front port.new)
@@ -43,6 +45,7 @@ impl Operator {
         ensures memory { OnErr result (polling.UnpolledBy (part_of self.old.course.step) (P.client port.old) (P.front port.old) (P.front port.new)
             self.old self.new) }
         ensures sound { IsSound self.new }
+        ensures turn { InTurn self.new }
         ensures follows { Follows (P.client port.old) (P.front port.new) self.new }
         ensures busy { result ≡ Ok polls.Busy → P.misses port.old < P.misses port.new }
         ensures fault { result ≡ Ok polls.Fault → Rose (P.faults port.old) (P.faults port.new) }
@@ -63,9 +66,10 @@ impl Operator {
         port: &mut P,
     ) -> Result<Poll<ClockAnswer>, AllocError>
         requires open { IsOpen self.old (part_of self.old.course.step) }
-        requires turn { part_of self.old.course.step ≡ Part.Reader }
+        requires part { part_of self.old.course.step ≡ Part.Reader }
         requires taken { self.old.course.intake ≡ Intake.Nothing }
         requires sound { IsSound self.old }
+        requires turn { InTurn self.old }
         requires busy { IsSome self.old.course.errand }
         requires follows { Follows (P.client port.old) (P.front port.old) self.old }
         ensures polled { IfOk result (polling.PolledBy (part_of self.old.course.step) (P.client port.old) (P.front port.old) (P.front port.new)
@@ -73,6 +77,7 @@ impl Operator {
         ensures memory { OnErr result (polling.UnpolledBy (part_of self.old.course.step) (P.client port.old) (P.front port.old) (P.front port.new)
             self.old self.new) }
         ensures sound { IsSound self.new }
+        ensures turn { InTurn self.new }
         ensures follows { Follows (P.client port.old) (P.front port.new) self.new }
         ensures busy { result ≡ Ok polls.Busy → P.misses port.old < P.misses port.new }
         ensures fault { result ≡ Ok polls.Fault → Rose (P.faults port.old) (P.faults port.new) }
@@ -93,9 +98,10 @@ impl Operator {
         port: &mut P,
     ) -> Result<Poll<ClockAnswer>, AllocError>
         requires open { IsOpen self.old (part_of self.old.course.step) }
-        requires turn { part_of self.old.course.step ≡ Part.DataWriter }
+        requires part { part_of self.old.course.step ≡ Part.DataWriter }
         requires taken { self.old.course.intake ≡ Intake.Nothing }
         requires sound { IsSound self.old }
+        requires turn { InTurn self.old }
         requires busy { IsSome self.old.course.errand }
         requires follows { Follows (P.client port.old) (P.front port.old) self.old }
         ensures polled { IfOk result (polling.PolledBy (part_of self.old.course.step) (P.client port.old) (P.front port.old) (P.front port.new)
@@ -103,6 +109,7 @@ impl Operator {
         ensures memory { OnErr result (polling.UnpolledBy (part_of self.old.course.step) (P.client port.old) (P.front port.old) (P.front port.new)
             self.old self.new) }
         ensures sound { IsSound self.new }
+        ensures turn { InTurn self.new }
         ensures follows { Follows (P.client port.old) (P.front port.new) self.new }
         ensures busy { result ≡ Ok polls.Busy → P.misses port.old < P.misses port.new }
         ensures fault { result ≡ Ok polls.Fault → Rose (P.faults port.old) (P.faults port.new) }
@@ -123,9 +130,10 @@ impl Operator {
         port: &mut P,
     ) -> Result<Poll<ClockAnswer>, AllocError>
         requires open { IsOpen self.old (part_of self.old.course.step) }
-        requires turn { part_of self.old.course.step ≡ Part.Looker }
+        requires part { part_of self.old.course.step ≡ Part.Looker }
         requires taken { self.old.course.intake ≡ Intake.Nothing }
         requires sound { IsSound self.old }
+        requires turn { InTurn self.old }
         requires busy { IsSome self.old.course.errand }
         requires follows { Follows (P.client port.old) (P.front port.old) self.old }
         ensures polled { IfOk result (polling.PolledBy (part_of self.old.course.step) (P.client port.old) (P.front port.old) (P.front port.new)
@@ -133,6 +141,7 @@ impl Operator {
         ensures memory { OnErr result (polling.UnpolledBy (part_of self.old.course.step) (P.client port.old) (P.front port.old) (P.front port.new)
             self.old self.new) }
         ensures sound { IsSound self.new }
+        ensures turn { InTurn self.new }
         ensures follows { Follows (P.client port.old) (P.front port.new) self.new }
         ensures busy { result ≡ Ok polls.Busy → P.misses port.old < P.misses port.new }
         ensures fault { result ≡ Ok polls.Fault → Rose (P.faults port.old) (P.faults port.new) }
@@ -155,6 +164,7 @@ impl Operator {
         requires open { IsOpen self.old (part_of self.old.course.step) }
         requires taken { self.old.course.intake ≡ Intake.Nothing }
         requires sound { IsSound self.old }
+        requires turn { InTurn self.old }
         requires busy { IsSome self.old.course.errand }
         requires follows { Follows (P.client port.old) (P.front port.old) self.old }
         ensures polled { IfOk result (polling.PolledBy (part_of self.old.course.step) (P.client port.old) (P.front port.old) (P.front port.new)
@@ -162,6 +172,7 @@ impl Operator {
         ensures memory { OnErr result (polling.UnpolledBy (part_of self.old.course.step) (P.client port.old) (P.front port.old) (P.front port.new)
             self.old self.new) }
         ensures sound { IsSound self.new }
+        ensures turn { InTurn self.new }
         ensures follows { Follows (P.client port.old) (P.front port.new) self.new }
         ensures busy { result ≡ Ok polls.Busy → P.misses port.old < P.misses port.new }
         ensures fault { result ≡ Ok polls.Fault → Rose (P.faults port.old) (P.faults port.new) }
@@ -188,12 +199,14 @@ impl Operator {
     ) -> Result<Poll<ClockAnswer>, AllocError>
         requires open { IsSome self.old.course.errand }
         requires sound { IsSound self.old }
+        requires turn { InTurn self.old }
         // Over each told front that is lawful and starts as a collection, each machine follows from the client's own entries.
         requires follows { Follows (P.client port.old) (P.front port.old) self.old }
         // One inner machine is polled, whose command the step names, and what that comes to is the table's.
         ensures polled { IfOk result (Polled (P.client port.old) (P.front port.old) (P.front port.new) self.old self.new) }
         ensures memory { OnErr result (Unpolled (P.client port.old) (P.front port.old) (P.front port.new) self.old self.new) }
         ensures sound { IsSound self.new }
+        ensures turn { InTurn self.new }
         ensures follows { Follows (P.client port.old) (P.front port.new) self.new }
         ensures busy { result ≡ Ok polls.Busy → P.misses port.old < P.misses port.new }
         ensures fault { result ≡ Ok polls.Fault → Rose (P.faults port.old) (P.faults port.new) }
@@ -203,9 +216,7 @@ impl Operator {
         ensures kept { P.kept port.new ≡ P.kept port.old }
     {
         self.course.bind(alloc)?;
-        if !self.ready(alloc)? {
-            return Ok(self.course.strange());
-        }
+        self.ready(alloc)?;
         self.poll_ready(alloc, port)
     }
 }

@@ -1,15 +1,20 @@
 // What comes before a poll of an operator's inner machine: its command that is next begins, unless it is open.
-ghost use Rattle.std.specs.Prelude.{◌≡◌, ℕ, Ok, Option, IfOk, IsSome, OnErr, true};
+ghost use Rattle.std.specs.Prelude.{◌≡◌, ℕ, None, Ok, Option, IfOk, IsSome, OnErr, OnOk};
 ghost use Rattle.store_core.specs.Histories.{History};
+ghost use Rattle.write_client.specs.Beginning.{close_fault};
 ghost use Rattle.write_client.specs.Following as writes;
 ghost use Rattle.write_client.specs.Writing as writers;
 ghost use Rattle.read_client.specs.Following as reads;
 ghost use Rattle.read_client.specs.Reading as readers;
+ghost use Rattle.reclock_client.specs.Asking.{InTurn};
+ghost use Rattle.reclock_client.specs.Minting as minting;
 ghost use Rattle.reclock_client.specs.Operators.{Follows, IsOpen, IsSound};
 ghost use Rattle.reclock_client.specs.Parts.{part_of};
 ghost use Rattle.reclock_client.specs.Polling as polling;
+ghost use Rattle.reclock_client.specs.Turns.{AtStep};
 
 use crate::errands::Errand;
+use crate::intakes::Intake;
 use crate::looks::Look;
 use crate::mints::mint_rows;
 use crate::operators::Operator;
@@ -25,12 +30,18 @@ use update_core::Frontier;
 use write_client::Writer;
 
 impl Operator {
-    // What a mint appends from an upper on is begun.
+    // What a mint appends from an upper on is begun, where a token is left.
     fn begin_rises(&mut self, alloc: Global, from: u64) -> Result<Begun, AllocError>
-        requires { IsSound self.old }
-        ensures begins { polling.BeginsAppend (polling.mint_rows self.old.course self.old.course.errand) from
+        requires sound { IsSound self.old }
+        requires turn { AtStep self.old }
+        requires busy { IsSome self.old.course.errand }
+        requires step { self.old.course.step ≡ Step.AppendRemap from }
+        requires idle { self.old.remap_writer.asked ≡ None }
+        ensures begins { polling.BeginsAppend (minting.mint_rows self.old.course.bindings self.old.course.errand) from
             self.old.remap_writer self.new.remap_writer result }
         ensures rest { self.new ≡ record self.old { remap_writer = self.new.remap_writer } }
+        ensures spent { result ≡ Ok Begun.Spent → self.new ≡ self.old }
+        ensures memory { OnErr result (self.new ≡ self.old) }
         ensures sound { writers.IsSound self.new.remap_writer }
         ensures follows { (client : ℕ) (front : Option History) → writes.FollowsWhere client front self.old.remap_writer
             → writes.FollowsWhere client front self.new.remap_writer }
@@ -47,16 +58,22 @@ impl Operator {
                     Frontier::after(time),
                 )
             }
-            _ => Ok(Begun::Refused),
+            _ => unreachable!(),
         }
     }
 
-    // What a publish appends from an upper on is begun.
+    // What a publish appends from an upper on is begun, where a token is left.
     fn begin_slice(&mut self, alloc: Global, from: u64) -> Result<Begun, AllocError>
-        requires { IsSound self.old }
-        ensures begins { polling.BeginsAppend (polling.slice_rows self.old.course self.old.course.errand from) from
-            self.old.data_writer self.new.data_writer result }
+        requires sound { IsSound self.old }
+        requires turn { AtStep self.old }
+        requires busy { IsSome self.old.course.errand }
+        requires step { self.old.course.step ≡ Step.AppendData from }
+        requires idle { self.old.data_writer.asked ≡ None }
+        ensures begins { polling.BeginsAppend (minting.slice_rows self.old.course.bindings self.old.course.synced self.old.course.errand from)
+            from self.old.data_writer self.new.data_writer result }
         ensures rest { self.new ≡ record self.old { data_writer = self.new.data_writer } }
+        ensures spent { result ≡ Ok Begun.Spent → self.new ≡ self.old }
+        ensures memory { OnErr result (self.new ≡ self.old) }
         ensures sound { writers.IsSound self.new.data_writer }
         ensures follows { (client : ℕ) (front : Option History) → writes.FollowsWhere client front self.old.data_writer
             → writes.FollowsWhere client front self.new.data_writer }
@@ -67,50 +84,58 @@ impl Operator {
                 let rows = published(alloc, rows, &self.course.bindings, Frontier::at(from), to)?;
                 append(alloc, &mut self.data_writer, rows, from, to)
             }
-            _ => Ok(Begun::Refused),
+            _ => unreachable!(),
         }
     }
 
-    // What follows the beginning of a mint's append. False where no command is open then.
-    fn after_rises(&mut self, alloc: Global, begun: Begun) -> bool
-        requires { writers.IsSound self.old.remap_writer }
-        ensures begun { polling.RemapBegun begun self.old self.new result }
+    // What follows the beginning of a mint's append: where no token is left, the writer leaves.
+    fn after_rises(&mut self, alloc: Global, begun: Begun) -> Result<(), AllocError>
+        requires sound { writers.IsSound self.old.remap_writer }
+        requires free { begun ≡ Begun.Spent → close_fault self.old.remap_writer ≡ None }
+        ensures begun { OnOk result (polling.RemapBegun begun self.old self.new) }
+        ensures memory { OnErr result ((begun ≡ Begun.Spent) × (self.new ≡ self.old)) }
         ensures sound { writers.IsSound self.new.remap_writer }
         ensures follows { (client : ℕ) (front : Option History) → writes.FollowsWhere client front self.old.remap_writer
             → writes.FollowsWhere client front self.new.remap_writer }
     {
         match begun {
-            Begun::Yes => true,
-            Begun::Refused => false,
+            Begun::Yes => Ok(()),
             Begun::Spent => {
+                leave_writer(alloc, &mut self.remap_writer)?;
                 self.course.step = Step::LeaveRemap;
-                leave_writer(alloc, &mut self.remap_writer)
+                Ok(())
             }
         }
     }
 
-    // What follows the beginning of a publish's append. False where no command is open then.
-    fn after_slice(&mut self, alloc: Global, begun: Begun) -> bool
-        requires { writers.IsSound self.old.data_writer }
-        ensures begun { polling.DataBegun begun self.old self.new result }
+    // The same for a publish's append.
+    fn after_slice(&mut self, alloc: Global, begun: Begun) -> Result<(), AllocError>
+        requires sound { writers.IsSound self.old.data_writer }
+        requires free { begun ≡ Begun.Spent → close_fault self.old.data_writer ≡ None }
+        ensures begun { OnOk result (polling.DataBegun begun self.old self.new) }
+        ensures memory { OnErr result ((begun ≡ Begun.Spent) × (self.new ≡ self.old)) }
         ensures sound { writers.IsSound self.new.data_writer }
         ensures follows { (client : ℕ) (front : Option History) → writes.FollowsWhere client front self.old.data_writer
             → writes.FollowsWhere client front self.new.data_writer }
     {
         match begun {
-            Begun::Yes => true,
-            Begun::Refused => false,
+            Begun::Yes => Ok(()),
             Begun::Spent => {
+                leave_writer(alloc, &mut self.data_writer)?;
                 self.course.step = Step::LeaveData;
-                leave_writer(alloc, &mut self.data_writer)
+                Ok(())
             }
         }
     }
 
-    // A command of the remap shard's writer begins. False where that is refused.
-    fn start_remap_writer(&mut self, alloc: Global) -> Result<bool, AllocError>
-        requires { IsSound self.old }
-        ensures starts { IfOk result (polling.RemapStarts self.old.course.step self.old self.new) }
+    // A command of the remap shard's writer begins. It fails only for want of memory.
+    fn start_remap_writer(&mut self, alloc: Global) -> Result<(), AllocError>
+        requires sound { IsSound self.old }
+        requires turn { AtStep self.old }
+        requires busy { IsSome self.old.course.errand }
+        requires part { part_of self.old.course.step ≡ Part.RemapWriter }
+        requires idle { self.old.remap_writer.asked ≡ None }
+        ensures starts { OnOk result (polling.RemapStarts self.old.course.step self.old self.new) }
         ensures memory { OnErr result (self.new ≡ self.old) }
         ensures sound { writers.IsSound self.new.remap_writer }
         ensures follows { (client : ℕ) (front : Option History) → writes.FollowsWhere client front self.old.remap_writer
@@ -119,20 +144,24 @@ impl Operator {
         match self.course.step {
             Step::JoinRemap => {
                 self.remap_writer = Writer::open(alloc, self.remap);
-                Ok(true)
+                Ok(())
             }
             Step::AppendRemap { from } => {
                 let begun = self.begin_rises(alloc, from)?;
-                Ok(self.after_rises(alloc, begun))
+                self.after_rises(alloc, begun)
             }
-            _ => Ok(leave_writer(alloc, &mut self.remap_writer)),
+            _ => leave_writer(alloc, &mut self.remap_writer),
         }
     }
 
-    // A command of the data shard's writer begins. False where that is refused.
-    fn start_data_writer(&mut self, alloc: Global) -> Result<bool, AllocError>
-        requires { IsSound self.old }
-        ensures starts { IfOk result (polling.DataStarts self.old.course.step self.old self.new) }
+    // A command of the data shard's writer begins. It fails only for want of memory.
+    fn start_data_writer(&mut self, alloc: Global) -> Result<(), AllocError>
+        requires sound { IsSound self.old }
+        requires turn { AtStep self.old }
+        requires busy { IsSome self.old.course.errand }
+        requires part { part_of self.old.course.step ≡ Part.DataWriter }
+        requires idle { self.old.data_writer.asked ≡ None }
+        ensures starts { OnOk result (polling.DataStarts self.old.course.step self.old self.new) }
         ensures memory { OnErr result (self.new ≡ self.old) }
         ensures sound { writers.IsSound self.new.data_writer }
         ensures follows { (client : ℕ) (front : Option History) → writes.FollowsWhere client front self.old.data_writer
@@ -141,20 +170,24 @@ impl Operator {
         match self.course.step {
             Step::JoinData => {
                 self.data_writer = Writer::open(alloc, self.data_shard);
-                Ok(true)
+                Ok(())
             }
             Step::AppendData { from } => {
                 let begun = self.begin_slice(alloc, from)?;
-                Ok(self.after_slice(alloc, begun))
+                self.after_slice(alloc, begun)
             }
-            _ => Ok(leave_writer(alloc, &mut self.data_writer)),
+            _ => leave_writer(alloc, &mut self.data_writer),
         }
     }
 
-    // A command of the reader begins. False where that is refused.
-    fn start_reader(&mut self, alloc: Global) -> bool
-        requires { IsSound self.old }
-        ensures starts { polling.ReadStarts self.old.course.step self.old self.new result }
+    // A command of the reader begins.
+    fn start_reader(&mut self, alloc: Global)
+        requires sound { IsSound self.old }
+        requires turn { AtStep self.old }
+        requires busy { IsSome self.old.course.errand }
+        requires part { part_of self.old.course.step ≡ Part.Reader }
+        requires idle { self.old.reader.asked ≡ None }
+        ensures starts { polling.ReadStarts self.old.course.step self.old self.new }
         ensures writer { writers.IsSound self.new.remap_writer }
         ensures sound { readers.IsSound self.new.reader }
         ensures follows { (client : ℕ) (front : Option History) → reads.FollowsWhere client front self.old.reader
@@ -164,7 +197,6 @@ impl Operator {
         match self.course.step {
             Step::JoinReader => {
                 self.reader = Reader::open(alloc, self.remap, self.moment, self.lease);
-                true
             }
             Step::Snapshot => take_snapshot(&mut self.reader, since),
             Step::Listen => start_listen(&mut self.reader, since),
@@ -172,39 +204,43 @@ impl Operator {
             _ => {
                 // The remap shard's writer has left: a new one, which isn't polled, takes its place.
                 self.remap_writer = Writer::open(alloc, self.remap);
-                leave_reader(&mut self.reader)
+                leave_reader(&mut self.reader);
             }
         }
     }
 
-    /// The inner command that is next begins, unless it is open. False where that is refused. It fails only for want of memory, and
-    /// the operator is then as it was.
-    pub(crate) fn ready(&mut self, alloc: Global) -> Result<bool, AllocError>
+    /// The inner command that is next begins, unless it is open: nothing stands against it. It fails only for want of memory, and the
+    /// operator is then as it was.
+    pub(crate) fn ready(&mut self, alloc: Global) -> Result<(), AllocError>
         requires sound { IsSound self.old }
+        requires turn { InTurn self.old }
         requires busy { IsSome self.old.course.errand }
-        ensures starts { IfOk result (polling.Starts (part_of self.old.course.step) self.old self.new) }
+        requires taken { self.old.course.intake ≡ Intake.Nothing }
+        ensures starts { OnOk result (polling.Starts (part_of self.old.course.step) self.old self.new) }
         ensures memory { OnErr result (self.new ≡ self.old) }
-        ensures open { result ≡ Ok true → IsOpen self.new (part_of self.new.course.step) }
+        ensures open { OnOk result (IsOpen self.new (part_of self.new.course.step)) }
         ensures course { self.new.course ≡ record self.old.course { step = self.new.course.step } }
         ensures sound { IsSound self.new }
+        ensures turn { InTurn self.new }
         ensures follows { (client : ℕ) (front : Option History) → Follows client front self.old → Follows client front self.new }
     {
         match self.course.step.part() {
             Part::RemapWriter => {
                 if self.remap_writer.busy() {
-                    return Ok(true);
+                    return Ok(());
                 }
                 self.start_remap_writer(alloc)
             }
             Part::Reader => {
                 if self.reader.busy() {
-                    return Ok(true);
+                    return Ok(());
                 }
-                Ok(self.start_reader(alloc))
+                self.start_reader(alloc);
+                Ok(())
             }
             Part::DataWriter => {
                 if self.data_writer.busy() {
-                    return Ok(true);
+                    return Ok(());
                 }
                 self.start_data_writer(alloc)
             }
@@ -212,7 +248,7 @@ impl Operator {
                 if self.looker.asked.is_none() {
                     self.looker.begin(Look {}, Transition::Init);
                 }
-                Ok(true)
+                Ok(())
             }
         }
     }

@@ -1,16 +1,19 @@
 // How the commands of an operator's inner machines begin.
-ghost use Rattle.std.specs.Prelude.{◌≡◌, Some, ℕ, Option};
+ghost use Rattle.std.specs.Prelude.{◌≡◌, None, Some, ℕ, Option, OnErr, OnOk};
 ghost use Rattle.update_core.specs.Frontiers.{after};
 ghost use Rattle.store_core.specs.Histories.{History};
+ghost use Rattle.write_client.specs.Beginning.{Closing, append_fault, close_fault};
 ghost use Rattle.write_client.specs.Following as writes;
 ghost use Rattle.write_client.specs.Writing as writers;
+ghost use Rattle.read_client.specs.Beginning.{BeginsRead, Changing, member_fault, next_fault};
 ghost use Rattle.read_client.specs.Following as reads;
 ghost use Rattle.read_client.specs.Reading as readers;
-ghost use Rattle.reclock_client.specs.Starting.{LeavesReader, StartsAppend, StartsLeave, StartsRead};
+ghost use Rattle.reclock_client.specs.Starting.{MayAppend, StartsAppend};
 
 use history_core::Asked;
 use load_core::BeginFault;
 use read_client::Reader;
+use state_core::Transition;
 use std::alloc::{AllocError, Global};
 use update_core::{Frontier, UpdateList};
 use write_client::Writer;
@@ -22,25 +25,25 @@ pub enum Begun {
     Yes,
     /// No token is left for it.
     Spent,
-    /// It is refused for another reason.
-    Refused,
 }
 
-/// A writer begins to leave. False where that is refused.
-pub fn leave_writer(alloc: Global, writer: &mut Writer) -> bool
-    requires { writers.IsSound writer.old }
-    ensures leaves { StartsLeave writer.old writer.new result }
+/// A writer against whose leaving nothing stands begins to leave. It fails only for want of memory, and the writer is then as it was.
+pub fn leave_writer(alloc: Global, writer: &mut Writer) -> Result<(), AllocError>
+    requires sound { writers.IsSound writer.old }
+    requires free { close_fault writer.old ≡ None }
+    ensures leaves { OnOk result (Closing writer.old writer.new) }
+    ensures memory { OnErr result (writer.new ≡ writer.old) }
     ensures sound { writers.IsSound writer.new }
     ensures follows { (client : ℕ) (front : Option History) → writes.FollowsWhere client front writer.old
         → writes.FollowsWhere client front writer.new }
 {
     match writer.begin_close(alloc) {
-        Ok(()) => true,
-        Err(_) => false,
+        Ok(()) => Ok(()),
+        Err(_) => Err(AllocError),
     }
 }
 
-/// A writer begins to append the rows. It fails for want of memory, and the writer is then as it was.
+/// A writer begins to append the rows, where a token is left. It fails only for want of memory, and the writer is then as it was.
 pub fn append(
     alloc: Global,
     writer: &mut Writer,
@@ -48,8 +51,10 @@ pub fn append(
     from: u64,
     to: Frontier,
 ) -> Result<Begun, AllocError>
-    requires { writers.IsSound writer.old }
+    requires sound { writers.IsSound writer.old }
+    requires fits { MayAppend (append_fault writer.old rows from to) }
     ensures begins { StartsAppend rows from to writer.old writer.new result }
+    ensures memory { OnErr result (append_fault writer.old rows from to ≡ None) }
     ensures sound { writers.IsSound writer.new }
     ensures follows { (client : ℕ) (front : Option History) → writes.FollowsWhere client front writer.old
         → writes.FollowsWhere client front writer.new }
@@ -57,63 +62,66 @@ pub fn append(
     match writer.begin_append(alloc, rows, from, to) {
         Ok(()) => Ok(Begun::Yes),
         Err(BeginFault::TokensSpent) => Ok(Begun::Spent),
-        Err(BeginFault::Memory) => Err(AllocError),
-        Err(_) => Ok(Begun::Refused),
+        Err(_) => Err(AllocError),
     }
 }
 
-/// The reader begins to take the content at a time. False where that is refused.
-pub fn take_snapshot(reader: &mut Reader, t: u64) -> bool
-    requires { readers.IsSound reader.old }
-    ensures reads { StartsRead (Asked.Snapshot t) reader.old.listen reader.old reader.new result }
+/// A reader against which nothing stands begins to take the content at a time.
+pub fn take_snapshot(reader: &mut Reader, t: u64)
+    requires sound { readers.IsSound reader.old }
+    requires free { member_fault reader.old.asked reader.old.member ≡ None }
+    ensures reads { BeginsRead reader.old (Asked.Snapshot t) reader.old.listen reader.new }
     ensures sound { readers.IsSound reader.new }
     ensures follows { (client : ℕ) (front : Option History) → reads.FollowsWhere client front reader.old
         → reads.FollowsWhere client front reader.new }
 {
     match reader.begin_snapshot(t) {
-        Ok(()) => true,
-        Err(_) => false,
+        Ok(()) => {}
+        Err(_) => unreachable!(),
     }
 }
 
-/// The reader begins a listen from a time on. False where that is refused.
-pub fn start_listen(reader: &mut Reader, as_of: u64) -> bool
-    requires { readers.IsSound reader.old }
-    ensures reads { StartsRead (Asked.Listen as_of) (Some (after as_of)) reader.old reader.new result }
+/// The same for a listen from a time on.
+pub fn start_listen(reader: &mut Reader, as_of: u64)
+    requires sound { readers.IsSound reader.old }
+    requires free { member_fault reader.old.asked reader.old.member ≡ None }
+    ensures reads { BeginsRead reader.old (Asked.Listen as_of) (Some (after as_of)) reader.new }
     ensures sound { readers.IsSound reader.new }
     ensures follows { (client : ℕ) (front : Option History) → reads.FollowsWhere client front reader.old
         → reads.FollowsWhere client front reader.new }
 {
     match reader.begin_listen(as_of) {
-        Ok(()) => true,
-        Err(_) => false,
+        Ok(()) => {}
+        Err(_) => unreachable!(),
     }
 }
 
-/// The reader begins the next step of its listen. False where that is refused.
-pub fn take_step(reader: &mut Reader) -> bool
-    requires { readers.IsSound reader.old }
-    ensures reads { StartsRead Asked.Next reader.old.listen reader.old reader.new result }
+/// The same for the next step of its listen.
+pub fn take_step(reader: &mut Reader)
+    requires sound { readers.IsSound reader.old }
+    requires free { next_fault reader.old ≡ None }
+    ensures reads { BeginsRead reader.old Asked.Next reader.old.listen reader.new }
     ensures sound { readers.IsSound reader.new }
     ensures follows { (client : ℕ) (front : Option History) → reads.FollowsWhere client front reader.old
         → reads.FollowsWhere client front reader.new }
 {
     match reader.begin_next() {
-        Ok(()) => true,
-        Err(_) => false,
+        Ok(()) => {}
+        Err(_) => unreachable!(),
     }
 }
 
-/// The reader begins to leave. False where that is refused.
-pub fn leave_reader(reader: &mut Reader) -> bool
-    requires { readers.IsSound reader.old }
-    ensures leaves { LeavesReader reader.old reader.new result }
+/// The same for its leaving.
+pub fn leave_reader(reader: &mut Reader)
+    requires sound { readers.IsSound reader.old }
+    requires free { member_fault reader.old.asked reader.old.member ≡ None }
+    ensures leaves { Changing reader.old Asked.CloseReader (λ member. Transition.Leave member) reader.new }
     ensures sound { readers.IsSound reader.new }
     ensures follows { (client : ℕ) (front : Option History) → reads.FollowsWhere client front reader.old
         → reads.FollowsWhere client front reader.new }
 {
     match reader.begin_close() {
-        Ok(()) => true,
-        Err(_) => false,
+        Ok(()) => {}
+        Err(_) => unreachable!(),
     }
 }

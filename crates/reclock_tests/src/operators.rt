@@ -1,5 +1,6 @@
 // Operators that reclock one source.
 ghost use Rattle.reclock_client.specs.Operators.{IsSound};
+ghost use Rattle.reclock_client.specs.Asking.{InTurn};
 
 use crate::answers::Word;
 use crate::knowledge::{are_three, knows};
@@ -20,9 +21,13 @@ fn mint_in_turn(
     store: &mut UntoldStore,
 ) -> Result<bool, Fail>
     requires first { IsSound one.old }
+    requires first_turn { InTurn one.old }
     requires second { IsSound other.old }
+    requires second_turn { InTurn other.old }
     ensures first { IsSound one.new }
+    ensures first_turn { InTurn one.new }
     ensures second { IsSound other.new }
+    ensures second_turn { InTurn other.new }
 {
     let first = mint(alloc, one, store, 0, 10, &[(0, 3)])?;
     let nothing = mint(alloc, one, store, 0, 12, &[(0, 1)])?;
@@ -43,8 +48,10 @@ fn sync_knows(
     store: &mut UntoldStore,
     client: u64,
 ) -> Result<bool, Fail>
-    requires { IsSound operator.old }
-    ensures { IsSound operator.new }
+    requires sound { IsSound operator.old }
+    requires turn { InTurn operator.old }
+    ensures sound { IsSound operator.new }
+    ensures turn { InTurn operator.new }
 {
     let word = sync(alloc, operator, store, client)?;
     let known = knows(alloc, operator)?;
@@ -102,8 +109,10 @@ fn operators_agree_whichever_call_fails(rt: HostRuntime) -> Result<(), Fail> {
 
 // The operator mints at 10 and at 20, and reads what it has minted.
 fn mint_alone(alloc: Global, one: &mut Operator, store: &mut UntoldStore) -> Result<(), Fail>
-    requires { IsSound one.old }
-    ensures { IsSound one.new }
+    requires sound { IsSound one.old }
+    requires turn { InTurn one.old }
+    ensures sound { IsSound one.new }
+    ensures turn { InTurn one.new }
 {
     mint(alloc, one, store, 0, 10, &[(0, 3)])?;
     mint(alloc, one, store, 0, 20, &[(0, 5), (1, 2)])?;

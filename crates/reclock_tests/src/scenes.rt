@@ -1,6 +1,7 @@
 // Operators at one store, each of whose commands is polled to its end.
 ghost use Rattle.std.specs.Prelude.{IfOk};
 ghost use Rattle.reclock_client.specs.Operators.{IsSound};
+ghost use Rattle.reclock_client.specs.Asking.{InTurn};
 
 use crate::answers::{Word, poll_word};
 use reclock_client::Operator;
@@ -56,8 +57,10 @@ fn poll_once(
     store: &mut UntoldStore,
     client: u64,
 ) -> Result<Option<Word>, AllocError>
-    requires { IsSound operator.old }
-    ensures { IsSound operator.new }
+    requires sound { IsSound operator.old }
+    requires turn { InTurn operator.old }
+    ensures sound { IsSound operator.new }
+    ensures turn { InTurn operator.new }
 {
     if !operator.busy() {
         return Ok(None);
@@ -73,8 +76,10 @@ fn done(
     store: &mut UntoldStore,
     client: u64,
 ) -> Result<Word, AllocError>
-    requires { IsSound operator.old }
-    ensures { IsSound operator.new }
+    requires sound { IsSound operator.old }
+    requires turn { InTurn operator.old }
+    ensures sound { IsSound operator.new }
+    ensures turn { InTurn operator.new }
 {
     for _ in 0..200 {
         if let Some(word) = poll_once(alloc, operator, store, client)? {
@@ -90,7 +95,8 @@ pub fn joined(
     store: &mut UntoldStore,
     client: u64,
 ) -> Result<(Operator, Word), AllocError>
-    ensures { IfOk result (λ o. IsSound o.0) }
+    ensures sound { IfOk result (λ o. IsSound o.0) }
+    ensures turn { IfOk result (λ o. InTurn o.0) }
 {
     let mut operator = Operator::open(alloc, REMAP, DATA, 0, 1_000);
     let word = done(alloc, &mut operator, store, client)?;
@@ -106,8 +112,10 @@ pub fn mint(
     time: u64,
     offsets: &[(u8, u64)],
 ) -> Result<Word, Fail>
-    requires { IsSound operator.old }
-    ensures { IsSound operator.new }
+    requires sound { IsSound operator.old }
+    requires turn { InTurn operator.old }
+    ensures sound { IsSound operator.new }
+    ensures turn { InTurn operator.new }
 {
     operator.begin_mint(time, &seen(offsets)?)?;
     let word = done(alloc, operator, store, client)?;
@@ -121,8 +129,10 @@ pub fn sync(
     store: &mut UntoldStore,
     client: u64,
 ) -> Result<Word, Fail>
-    requires { IsSound operator.old }
-    ensures { IsSound operator.new }
+    requires sound { IsSound operator.old }
+    requires turn { InTurn operator.old }
+    ensures sound { IsSound operator.new }
+    ensures turn { InTurn operator.new }
 {
     operator.begin_sync()?;
     let word = done(alloc, operator, store, client)?;
@@ -136,8 +146,10 @@ pub fn publish(
     store: &mut UntoldStore,
     client: u64,
 ) -> Result<Word, Fail>
-    requires { IsSound operator.old }
-    ensures { IsSound operator.new }
+    requires sound { IsSound operator.old }
+    requires turn { InTurn operator.old }
+    ensures sound { IsSound operator.new }
+    ensures turn { InTurn operator.new }
 {
     operator.begin_publish(alloc, &source(alloc)?)?;
     let word = done(alloc, operator, store, client)?;
@@ -151,8 +163,10 @@ pub fn close(
     store: &mut UntoldStore,
     client: u64,
 ) -> Result<Word, Fail>
-    requires { IsSound operator.old }
-    ensures { IsSound operator.new }
+    requires sound { IsSound operator.old }
+    requires turn { InTurn operator.old }
+    ensures sound { IsSound operator.new }
+    ensures turn { InTurn operator.new }
 {
     operator.begin_close()?;
     let word = done(alloc, operator, store, client)?;

@@ -1,4 +1,5 @@
 use Rattle.std.proofs.Common.{refl}
+use Rattle.crew.proofs.PinSeats.{none_on}
 use Rattle.crew.proofs.Seating.{seats_on}
 use Rattle.crew.proofs.crews.make_seats.Goals as goal
 
@@ -7,4 +8,8 @@ loop-worker-preserved g c =
     let k = seats_on c.args.plan.now c.loop-worker.seats.items c.push.new.self.items _ c.loop-worker.worker
     c.loop-worker.invariant.count c.in_ok-push.ensures.items c.loop-worker.invariant.placed
     (record { number = refl; stop = c.stop_of.ensures; job = c.job_of.ensures }) in
-    record { count = k.0; placed = k.1 }
+    record {
+      count = k.0;
+      placed = k.1;
+      empty = none_on c.loop-worker.seats.items c.push.new.self.items _ c.in_ok-push.ensures.items refl c.loop-worker.invariant.empty;
+    }

@@ -1,9 +1,10 @@
 use Rattle.std.proofs.Common.{◌≡◌, length}
-use Rattle.crew.specs.Seats.{PlacedFrom}
+use Rattle.crew.specs.Seats.{HaveNone, PlacedFrom, pins_of}
 use Rattle.crew.proofs.crews.make_seats.Given as goal
 
 abbrev pub invariant-loop-worker : goal.invariant-loop-worker
 invariant-loop-worker g l = record {
   count : length l.seats.items ≡ l.worker;
   placed : PlacedFrom l.plan 0 l.seats.items;
+  empty : HaveNone (pins_of l.seats.items);
 }

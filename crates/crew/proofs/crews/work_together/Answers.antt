@@ -1,13 +1,19 @@
 use Rattle.std.proofs.Common.{◌≡◌, ℕ, ◌^◌, ap, subst, ◌∙◌, arith}
-use Rattle.std.proofs.Common.{List, [], ◌∷◌, ◌+◌, ◌≤◌, length, sym}
+use Rattle.std.proofs.Common.{List, [], ◌∷◌, ◌+◌, ◌≤◌, ◌<◌, Option, length, sym}
 use Rattle.std.specs.List.{AllByRecursion}
 use Rattle.update_core.specs.declared.appends.FeedAppend.{FeedAppend}
 use Rattle.turnstile.specs.declared.views.View.{View}
 use Rattle.turnstile.specs.Passes.{view}
+use Rattle.shared_store.specs.Fronts.{front_of}
 use Rattle.store_core.specs.declared.entries.Entry.{Entry}
-use Rattle.crew.specs.Seats.{HasWorked, NumberedFrom}
+use Rattle.std.specs.Prelude.{slice_index_or}
+use Rattle.store_core.specs.Histories.{History}
+use Rattle.read_client.specs.declared.readers.Reader.{Reader}
+use Rattle.crew.specs.declared.ends.WorkerEnd.{WorkerEnd}
+use Rattle.crew.specs.Seats.{HasPin, HasWorked, NumberedFrom, PinsIdle, PinsLeft, Works, pins_of}
 use Rattle.crew.proofs.CrewEnds.{all_numbered, all_placed, all_worked, crew_ran_on, ends_on, grows_by_others}
 use Rattle.crew.proofs.CrewEnds.{kept_keeps, others_none, seats_there}
+use Rattle.crew.proofs.PinSeats.{all_held, all_ready, pins_left}
 use Rattle.crew.proofs.Numbers.{all_suit, next_first, next_of, no_pin, one_pin}
 use Rattle.crew.proofs.crews.work_together.Goals as goal
 
@@ -22,6 +28,18 @@ deal-kept-requires-clause-new g c =
 
 pub deal-kept-requires-clause-single : goal.deal-kept-requires-clause-single
 deal-kept-requires-clause-single g c = one_pin c.args.plan.now 0 c.args.seats.now c.requires.places
+
+pub sit_all-requires-clause-ready : goal.sit_all-requires-clause-ready
+sit_all-requires-clause-ready g c κs within =
+    let plan = c.args.plan.now in
+    let first = c.requires.first in
+    let front = front_of g.S.Store.history (view c.args.pass) in
+    let low = ap (λ (v : View _ Entry). v.low) first ∙ sym (next_first plan) in
+    all_ready plan c.args.shared.turnstile (view c.args.pass) (ap (λ (v : View _ Entry). v.gain) first) c.requires.pass.start 0
+    c.deal-kept.new.seats c.deal-kept.ensures.seated
+    (subst (λ (n : ℕ). NumberedFrom n c.deal-kept.new.seats) low c.deal-kept.ensures.numbers)
+    (c.deal-kept.ensures.places plan 0 c.requires.places)
+    (subst (PinsIdle plan front 0) (sym c.deal-kept.ensures.pins) c.requires.pins)
 
 pub gather_all-pass-requires-clause-kept : goal.gather_all-pass-requires-clause-kept
 gather_all-pass-requires-clause-kept g c = kept_keeps c.args.plan.now c.args.shared.turnstile c.deal-kept.result (view c.args.pass)
@@ -105,3 +123,45 @@ returns-clause-ends g c =
     c.gather_all-pass.ensures.pass.start
     c.close.ensures.history worked numbered c.gather_all-pass.ensures.theirs c.gather_all-pass.ensures.prefix placed
     c.gather_all-pass.ensures.ends
+
+pub returns-clause-pins : goal.returns-clause-pins
+returns-clause-pins g c =
+    let plan = c.args.plan.now in
+    let first = c.requires.first in
+    let t = c.args.shared.turnstile in
+    let xs = c.deal-kept.new.seats in
+    let ys = c.sit_all.new.seats in
+    let w = view c.gather_all-pass.result in
+    let front = front_of g.S.Store.history (view c.args.pass) in
+    let low = ap (λ (v : View _ Entry). v.low) first ∙ sym (next_first plan) in
+    let numbers = subst (λ (n : ℕ). NumberedFrom n xs) low c.deal-kept.ensures.numbers in
+    let len = c.sit_all.ensures.length in
+    let works = c.sit_all.ensures.worked in
+    let appends = c.as_slice-appends.result.now in
+    let numbered = all_numbered appends plan.shard t xs ys (next_of plan 0) len works numbers in
+    let placed = all_placed appends plan.shard t plan 0 xs ys len works (c.deal-kept.ensures.places plan 0 c.requires.places) in
+    let left = pins_left plan t w c.gather_all-pass.ensures.pass.start front 0 xs ys len
+    (subst (λ (fs : List FeedAppend). (i : ℕ) (d : _) → i < length xs →
+    Works fs plan.shard t (slice_index_or xs i d) (slice_index_or ys i d))
+    c.as_slice-appends.ensures works)
+    (subst (PinsIdle plan front 0) (sym c.deal-kept.ensures.pins) c.requires.pins) numbered placed c.gather_all-pass.ensures.theirs
+    c.gather_all-pass.ensures.prefix in
+    subst (λ (f : Option History). PinsLeft plan f 0 (pins_of c.gather_all-pass.new.seats) c.gather_all-pass.new.ends)
+    (sym c.close.ensures.history)
+    (subst (λ (ps : List (Option Reader)). PinsLeft plan (front_of g.S.Store.history w) 0 ps c.gather_all-pass.new.ends)
+    (sym c.gather_all-pass.ensures.pins)
+    (subst (λ (es : List WorkerEnd). PinsLeft plan (front_of g.S.Store.history w) 0 (pins_of ys) es)
+    (sym c.gather_all-pass.ensures.ends) left))
+
+pub returns-clause-held : goal.returns-clause-held
+returns-clause-held g c = λ has.
+    let plan = c.args.plan.now in
+    let t = c.args.shared.turnstile in
+    let xs = c.deal-kept.new.seats in
+    let ys = c.sit_all.new.seats in
+    subst HasPin (sym c.gather_all-pass.ensures.pins)
+    (all_held plan t (view c.gather_all-pass.result) c.gather_all-pass.ensures.pass.start xs ys c.sit_all.ensures.length
+    (subst (λ (fs : List FeedAppend). (i : ℕ) (d : _) → i < length xs →
+    Works fs plan.shard t (slice_index_or xs i d) (slice_index_or ys i d))
+    c.as_slice-appends.ensures c.sit_all.ensures.worked)
+    (subst HasPin (sym c.deal-kept.ensures.pins) has))

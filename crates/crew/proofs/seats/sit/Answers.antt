@@ -8,26 +8,28 @@ use Rattle.crew.proofs.seats.sit.Goals as goal
 
 pub returns : goal.returns
 returns g c =
-    let seated = c.requires.seated in
+    let seated = c.requires.ready.seated in
     let there : Some seated.pass ≡ Some c.in-Some.pass = sym seated.there ∙ sym c.take.ensures.value ∙ c.in-Some.is in
     let same : seated.pass ≡ c.in-Some.pass = one_some seated.pass c.in-Some.pass there in
     record {
       worked = record {
-        pass = c.work_alone-pass.result.0;
+        pass = c.work_with-pass.result.0;
         there = refl;
-        is_pass = c.work_alone-pass.ensures.pass;
-        alone = is_alone (view c.in-Some.pass) (view c.work_alone-pass.result.0)
-            (subst (λ (p : _). IsNew (view p)) same seated.new) c.work_alone-pass.ensures.same;
+        is_pass = c.work_with-pass.ensures.pass;
+        alone = is_alone (view c.in-Some.pass) (view c.work_with-pass.result.0)
+            (subst (λ (p : _). IsNew (view p)) same seated.new) c.work_with-pass.ensures.same;
         keeps = kin_keeps (role_of c.args.seat.now.job c.args.appends.now) c.args.shard g.S.Store.history (view c.in-Some.pass)
-            (view c.work_alone-pass.result.0)
-            (subst (λ (p : _). IsNew (view p)) same seated.new) c.work_alone-pass.ensures.same c.work_alone-pass.ensures.keeps;
-        shown = c.work_alone-pass.ensures.end;
+            (view c.work_with-pass.result.0)
+            (subst (λ (p : _). IsNew (view p)) same seated.new) c.work_with-pass.ensures.same c.work_with-pass.ensures.keeps;
+        shown = c.work_with-pass.ensures.end;
+        pin = c.work_with-pass.ensures.pin;
       };
-      share = c.work_alone-pass.ensures.same.share ∙ ap (λ (p : _). (view p).share) (sym same) ∙ sym (ap share_in seated.there);
+      share = c.work_with-pass.ensures.same.share ∙ ap (λ (p : _). (view p).share) (sym same) ∙ sym (ap share_in seated.there);
       number = λ n has.
-          c.work_alone-pass.ensures.same.number
+          c.work_with-pass.ensures.same.number
           ∙ subst (λ (o : _). IfSome o (λ p. (view p).number ≡ n)) (sym c.take.ensures.value ∙ c.in-Some.is) has;
       worker = refl;
       stop = refl;
       job = refl;
+      held = c.work_with-pass.ensures.held;
     }

@@ -10,7 +10,7 @@ use Rattle.plain_run.specs.Drives.{Failed}
 use Rattle.plain_run.specs.Settling.{StaysSettled}
 use Rattle.driving.specs.Drives.{Answered}
 use Rattle.driving.specs.Goings.{Goes}
-use Rattle.plain_run.proofs.TendLaws.{collected, collects, failed_tends, somewhere}
+use Rattle.plain_run.proofs.TendLaws.{collected, collects, collects_closed, failed_tends, somewhere}
 use Rattle.plain_run.proofs.compacting.collect_once.Goals as goal
 
 pub returns-in_err-_answer-clause-told : goal.returns-in_err-_answer-clause-told
@@ -36,5 +36,30 @@ returns-clause-told g c = λ reader.
     let asked : new.asked ≡ Some asks.Collect = ap (λ (w : Collector). w.asked) is in
     let same : kept new ≡ collected c.args.shard c.args.client a d (Some asks.Collect) = λ i. record { asked = asked i; shard = own i } in
     collects c.args.shard c.args.client a d reader (Some asks.Collect) answer
+    (subst (λ (k : CollectKept). Goes c.args.shard a d (Answered collecting c.args.client k answer)) same
+    (subst (λ (s : ShardId). Goes s a d (Answered collecting c.args.client (kept new) answer)) own c.in_ok-_answer.ensures.told))
+
+pub returns-in_err-_answer-clause-closes : goal.returns-in_err-_answer-clause-closes
+returns-in_err-_answer-clause-closes g c =
+    let a = g.S.Store.history c.args.port.now.store in
+    let d = g.S.Store.history c.drive_collector.new.port.store in
+    let new = c.begin_collect.new.self in
+    let is = c.in_ok-begin_collect.ensures.begins.1 in
+    let own : new.shard ≡ c.args.shard = ap (λ (w : Collector). w.shard) is ∙ c.new-collector.ensures.shard in
+    let p = err_from_is_err_and c.from_residual-in_err-_answer.result c.from_residual-in_err-_answer.ensures.1 in
+    rw p.1 (subst (λ (e : SessionFault). Goes c.args.shard a d (λ list start es now. Failed c.args.shard e start es now)) (sym p.2)
+    (subst (λ (s : ShardId). Goes s a d (λ list start es now. Failed s c.in_err-_answer.field-0.0 start es now)) own c.in_err-_answer.ensures.told))
+
+pub returns-clause-closes : goal.returns-clause-closes
+returns-clause-closes g c =
+    let a = g.S.Store.history c.args.port.now.store in
+    let d = g.S.Store.history c.drive_collector.new.port.store in
+    let new = c.begin_collect.new.self in
+    let answer = c.in_ok-_answer._answer in
+    let is = c.in_ok-begin_collect.ensures.begins.1 in
+    let own : new.shard ≡ c.args.shard = ap (λ (w : Collector). w.shard) is ∙ c.new-collector.ensures.shard in
+    let asked : new.asked ≡ Some asks.Collect = ap (λ (w : Collector). w.asked) is in
+    let same : kept new ≡ collected c.args.shard c.args.client a d (Some asks.Collect) = λ i. record { asked = asked i; shard = own i } in
+    collects_closed c.args.shard c.args.client a d (Some asks.Collect) answer
     (subst (λ (k : CollectKept). Goes c.args.shard a d (Answered collecting c.args.client k answer)) same
     (subst (λ (s : ShardId). Goes s a d (Answered collecting c.args.client (kept new) answer)) own c.in_ok-_answer.ensures.told))

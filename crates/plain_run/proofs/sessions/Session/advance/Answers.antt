@@ -1,46 +1,19 @@
-use Rattle.std.proofs.Common.{sym, subst, ◌∙◌}
-use Rattle.std.proofs.lemmas.Result.{err_from_is_err_and}
-use Rattle.history_core.specs.declared.asked.Asked.TheVariants as asks
-use Rattle.state_core.specs.declared.transitions.Transition.TheVariants.{Advance}
+use Rattle.std.proofs.Common.{Result, subst}
+use Rattle.std.specs.Prelude.{OnOk}
+use Rattle.driving.specs.Goings.{GrowsBy}
+use Rattle.feed_text.specs.declared.replies.RunReply.{RunReply}
 use Rattle.plain_run.specs.declared.session_faults.SessionFault.{SessionFault}
-use Rattle.plain_run.specs.Answering.{Ready, number_of}
-use Rattle.plain_run.specs.Drives.{Failed}
-use Rattle.driving.specs.Goings.{Goes}
-use Rattle.plain_run.specs.PlainRuns.{since_reply, view_since}
-use Rattle.plain_run.proofs.ReplyLaws.{asked_told, change_begun, failed_replies, on_reply, read_told, ready_read}
-use Rattle.plain_run.proofs.ReadLaws.{advancing}
+use Rattle.plain_run.specs.Answering.{ReaderReady, Ready}
+use Rattle.plain_run.proofs.ReplyLaws.{on_reply, ready_again}
 use Rattle.plain_run.proofs.sessions.Session.advance.Goals as goal
-
-pub returns-in_err-answer-clause-told : goal.returns-in_err-answer-clause-told
-returns-in_err-answer-clause-told g c =
-    let a = g.S.Store.history c.args.port.now.store in
-    let d = g.S.Store.history c.drive_reader.new.port.store in
-    let p = err_from_is_err_and c.from_residual-in_err-answer.result c.from_residual-in_err-answer.ensures.1 in
-    rw p.1 (failed_replies c.args.self.now.place a d (number_of c.args.self.now.reader) (λ view. since_reply view.own c.args.to)
-    (λ view. view_since view c.args.to) p.0
-    (subst (λ (e : SessionFault). Goes c.args.self.now.place.shard a d (λ list start es now. Failed c.args.self.now.place.shard e start es now)) (sym p.2) c.in_err-answer.ensures.told))
-
-pub returns-clause-told : goal.returns-clause-told
-returns-clause-told g c =
-    let a = g.S.Store.history c.args.port.now.store in
-    let d = g.S.Store.history c.drive_reader.new.port.store in
-    let begun_both = change_begun c.args.self.now.place a c.args.self.now.reader c.begin_advance.new.self (asks.Advance c.args.to)
-    (λ m. Advance m c.args.to) c.requires.ready.reader c.in_ok-begin_advance.ensures.begins.1 in
-    let begun = begun_both.0 in
-    read_told c.args.self.now.place a d c.args.self.now.reader c.begin_advance.new.self c.args.self.now.reader.listen (asks.Advance c.args.to)
-    (λ view. since_reply view.own c.args.to)
-    (λ view. view_since view c.args.to) c.in_ok-answer.answer c.reply_read.result begun c.reply_read.ensures
-    (advancing c.args.self.now.place.shard c.args.self.now.place.reader a d begun.number c.args.self.now.reader.listen (Advance begun.number c.args.to) c.args.to c.in_ok-answer.answer
-    (asked_told c.args.self.now.place a d c.args.self.now.reader c.begin_advance.new.self c.args.self.now.reader.listen (asks.Advance c.args.to)
-    (Advance begun.number c.args.to) c.in_ok-answer.answer begun begun_both.1
-    c.in_ok-answer.ensures.told))
 
 pub returns-clause-ready : goal.returns-clause-ready
 returns-clause-ready g c =
+    let s = c.args.self.now in
     let a = g.S.Store.history c.args.port.now.store in
-    let d = g.S.Store.history c.drive_reader.new.port.store in
-    let begun_both = change_begun c.args.self.now.place a c.args.self.now.reader c.begin_advance.new.self (asks.Advance c.args.to)
-    (λ m. Advance m c.args.to) c.requires.ready.reader c.in_ok-begin_advance.ensures.begins.1 in
-    let begun = begun_both.0 in
-    on_reply c.reply_read.result (Ready d (record { place = c.args.self.now.place; writer = c.args.self.now.writer; reader = c.drive_reader.new.reader; now = c.args.self.now.now; next = c.args.self.now.next })) (λ r is.
-    ready_read c.args.self.now.place c.args.self.now.now c.args.self.now.next a d c.args.self.now.writer c.args.self.now.reader c.begin_advance.new.self c.drive_reader.new.reader c.args.self.now.reader.listen (asks.Advance c.args.to) c.in_ok-answer.answer r c.requires.ready begun c.in_ok-answer.ensures.by c.in_ok-answer.ensures.ended c.drive_reader.ensures.sound c.in_ok-answer.ensures.follows (sym c.reply_read.ensures ∙ is))
+    let d = g.S.Store.history c.advance_reader.new.port.store in
+    let new = c.advance_reader.new.reader in
+    on_reply c.advance_reader.result (Ready d (record { place = s.place; writer = s.writer; reader = new; now = s.now; next = s.next })) (λ r is.
+    ready_again s.place s.now s.next a d s.writer s.reader new c.requires.ready
+    (subst (λ (q : Result RunReply SessionFault). OnOk q (GrowsBy s.place.reader a d)) is c.advance_reader.ensures.by)
+    (subst (λ (q : Result RunReply SessionFault). OnOk q (ReaderReady s.place.shard s.place.reader d new)) is c.advance_reader.ensures.ready))

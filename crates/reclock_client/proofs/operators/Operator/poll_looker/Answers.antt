@@ -8,39 +8,39 @@ use Rattle.reclock_client.proofs.operators.Operator.poll_looker.Goals as goal
 
 pub returns-in_err-poll-clause-memory : goal.returns-in_err-poll-clause-memory
 returns-in_err-poll-clause-memory g c = on_err _ c.from_residual.result _ (look_left (g.P.Port.client c.args.port.now) (g.P.Port.front c.args.port.now) (g.P.Port.front c.poll.new.port) c.args.self.now
-    c.requires.sound c.requires.busy c.requires.taken c.requires.follows c.poll.new.machine c.requires.turn c.requires.open c.in_err-poll.ensures.memory
+    c.requires.sound c.requires.busy c.requires.taken c.requires.follows c.requires.turn c.poll.new.machine c.requires.part c.requires.open c.in_err-poll.ensures.memory
     c.in_err-poll.ensures.follows c.in_err-poll.ensures.sound).memory
 
 pub returns-in_err-poll-clause-sound : goal.returns-in_err-poll-clause-sound
 returns-in_err-poll-clause-sound g c = (look_left (g.P.Port.client c.args.port.now) (g.P.Port.front c.args.port.now) (g.P.Port.front c.poll.new.port) c.args.self.now
-    c.requires.sound c.requires.busy c.requires.taken c.requires.follows c.poll.new.machine c.requires.turn c.requires.open c.in_err-poll.ensures.memory
+    c.requires.sound c.requires.busy c.requires.taken c.requires.follows c.requires.turn c.poll.new.machine c.requires.part c.requires.open c.in_err-poll.ensures.memory
     c.in_err-poll.ensures.follows c.in_err-poll.ensures.sound).sound
 
 pub returns-in_err-poll-clause-follows : goal.returns-in_err-poll-clause-follows
 returns-in_err-poll-clause-follows g c = (look_left (g.P.Port.client c.args.port.now) (g.P.Port.front c.args.port.now) (g.P.Port.front c.poll.new.port) c.args.self.now
-    c.requires.sound c.requires.busy c.requires.taken c.requires.follows c.poll.new.machine c.requires.turn c.requires.open c.in_err-poll.ensures.memory
+    c.requires.sound c.requires.busy c.requires.taken c.requires.follows c.requires.turn c.poll.new.machine c.requires.part c.requires.open c.in_err-poll.ensures.memory
     c.in_err-poll.ensures.follows c.in_err-poll.ensures.sound).follows
 
 pub returns-clause-polled : goal.returns-clause-polled
 returns-clause-polled g c = (look_came (g.P.Port.client c.args.port.now) (g.P.Port.front c.args.port.now) (g.P.Port.front c.poll.new.port) c.args.self.now
-    c.requires.sound c.requires.busy c.requires.taken c.requires.follows c.poll.new.machine c.in_ok-poll.poll c.after_look_poll.new.self c.counted-self.result
-    c.after_look_poll.result c.requires.turn c.requires.open
+    c.requires.sound c.requires.busy c.requires.taken c.requires.follows c.requires.turn c.poll.new.machine c.in_ok-poll.poll c.after_look_poll.new.self c.counted-self.result
+    c.after_look_poll.result c.requires.part c.requires.open
     (record { polled = c.in_ok-poll.ensures.polled; legal = c.in_ok-poll.ensures.legal; cost = c.in_ok-poll.ensures.cost })
     c.in_ok-poll.ensures.follows c.in_ok-poll.ensures.sound c.counted-self.ensures
     c.after_look_poll.ensures.next c.after_look_poll.ensures.course).polled
 
 pub returns-clause-sound : goal.returns-clause-sound
 returns-clause-sound g c = (look_came (g.P.Port.client c.args.port.now) (g.P.Port.front c.args.port.now) (g.P.Port.front c.poll.new.port) c.args.self.now
-    c.requires.sound c.requires.busy c.requires.taken c.requires.follows c.poll.new.machine c.in_ok-poll.poll c.after_look_poll.new.self c.counted-self.result
-    c.after_look_poll.result c.requires.turn c.requires.open
+    c.requires.sound c.requires.busy c.requires.taken c.requires.follows c.requires.turn c.poll.new.machine c.in_ok-poll.poll c.after_look_poll.new.self c.counted-self.result
+    c.after_look_poll.result c.requires.part c.requires.open
     (record { polled = c.in_ok-poll.ensures.polled; legal = c.in_ok-poll.ensures.legal; cost = c.in_ok-poll.ensures.cost })
     c.in_ok-poll.ensures.follows c.in_ok-poll.ensures.sound c.counted-self.ensures
     c.after_look_poll.ensures.next c.after_look_poll.ensures.course).sound
 
 pub returns-clause-follows : goal.returns-clause-follows
 returns-clause-follows g c = (look_came (g.P.Port.client c.args.port.now) (g.P.Port.front c.args.port.now) (g.P.Port.front c.poll.new.port) c.args.self.now
-    c.requires.sound c.requires.busy c.requires.taken c.requires.follows c.poll.new.machine c.in_ok-poll.poll c.after_look_poll.new.self c.counted-self.result
-    c.after_look_poll.result c.requires.turn c.requires.open
+    c.requires.sound c.requires.busy c.requires.taken c.requires.follows c.requires.turn c.poll.new.machine c.in_ok-poll.poll c.after_look_poll.new.self c.counted-self.result
+    c.after_look_poll.result c.requires.part c.requires.open
     (record { polled = c.in_ok-poll.ensures.polled; legal = c.in_ok-poll.ensures.legal; cost = c.in_ok-poll.ensures.cost })
     c.in_ok-poll.ensures.follows c.in_ok-poll.ensures.sound c.counted-self.ensures
     c.after_look_poll.ensures.next c.after_look_poll.ensures.course).follows
@@ -57,3 +57,16 @@ returns-clause-fault g c = λ h. c.in_ok-poll.ensures.fault (ap Ok (of_fault (Op
 
 pub poll-requires-clause-keeps : goal.poll-requires-clause-keeps
 poll-requires-clause-keeps g c = keeps
+
+pub returns-in_err-poll-clause-turn : goal.returns-in_err-poll-clause-turn
+returns-in_err-poll-clause-turn g c = (look_left (g.P.Port.client c.args.port.now) (g.P.Port.front c.args.port.now) (g.P.Port.front c.poll.new.port) c.args.self.now
+    c.requires.sound c.requires.busy c.requires.taken c.requires.follows c.requires.turn c.poll.new.machine c.requires.part c.requires.open c.in_err-poll.ensures.memory
+    c.in_err-poll.ensures.follows c.in_err-poll.ensures.sound).turn
+
+pub returns-clause-turn : goal.returns-clause-turn
+returns-clause-turn g c = (look_came (g.P.Port.client c.args.port.now) (g.P.Port.front c.args.port.now) (g.P.Port.front c.poll.new.port) c.args.self.now
+    c.requires.sound c.requires.busy c.requires.taken c.requires.follows c.requires.turn c.poll.new.machine c.in_ok-poll.poll c.after_look_poll.new.self c.counted-self.result
+    c.after_look_poll.result c.requires.part c.requires.open
+    (record { polled = c.in_ok-poll.ensures.polled; legal = c.in_ok-poll.ensures.legal; cost = c.in_ok-poll.ensures.cost })
+    c.in_ok-poll.ensures.follows c.in_ok-poll.ensures.sound c.counted-self.ensures
+    c.after_look_poll.ensures.next c.after_look_poll.ensures.course).turn

@@ -9,39 +9,39 @@ use Rattle.reclock_client.proofs.operators.Operator.poll_remap_writer.Goals as g
 
 pub returns-in_err-poll-clause-memory : goal.returns-in_err-poll-clause-memory
 returns-in_err-poll-clause-memory g c = on_err _ c.from_residual.result _ (remap_left (g.P.Port.client c.args.port.now) (g.P.Port.front c.args.port.now) (g.P.Port.front c.poll.new.port) c.args.self.now
-    c.requires.sound c.requires.busy c.requires.taken c.requires.follows c.poll.new.self c.requires.turn c.requires.open c.in_err-poll.ensures.memory
+    c.requires.sound c.requires.busy c.requires.taken c.requires.follows c.requires.turn c.poll.new.self c.requires.part c.requires.open c.in_err-poll.ensures.memory
     c.in_err-poll.ensures.follows c.in_err-poll.ensures.sound).memory
 
 pub returns-in_err-poll-clause-sound : goal.returns-in_err-poll-clause-sound
 returns-in_err-poll-clause-sound g c = (remap_left (g.P.Port.client c.args.port.now) (g.P.Port.front c.args.port.now) (g.P.Port.front c.poll.new.port) c.args.self.now
-    c.requires.sound c.requires.busy c.requires.taken c.requires.follows c.poll.new.self c.requires.turn c.requires.open c.in_err-poll.ensures.memory
+    c.requires.sound c.requires.busy c.requires.taken c.requires.follows c.requires.turn c.poll.new.self c.requires.part c.requires.open c.in_err-poll.ensures.memory
     c.in_err-poll.ensures.follows c.in_err-poll.ensures.sound).sound
 
 pub returns-in_err-poll-clause-follows : goal.returns-in_err-poll-clause-follows
 returns-in_err-poll-clause-follows g c = (remap_left (g.P.Port.client c.args.port.now) (g.P.Port.front c.args.port.now) (g.P.Port.front c.poll.new.port) c.args.self.now
-    c.requires.sound c.requires.busy c.requires.taken c.requires.follows c.poll.new.self c.requires.turn c.requires.open c.in_err-poll.ensures.memory
+    c.requires.sound c.requires.busy c.requires.taken c.requires.follows c.requires.turn c.poll.new.self c.requires.part c.requires.open c.in_err-poll.ensures.memory
     c.in_err-poll.ensures.follows c.in_err-poll.ensures.sound).follows
 
 pub returns-clause-polled : goal.returns-clause-polled
 returns-clause-polled g c = (remap_came (g.P.Port.client c.args.port.now) (g.P.Port.front c.args.port.now) (g.P.Port.front c.poll.new.port) c.args.self.now
-    c.requires.sound c.requires.busy c.requires.taken c.requires.follows c.poll.new.self c.in_ok-poll.poll c.after_remap_poll.new.self c.counted-self.result
-    c.after_remap_poll.result c.requires.turn c.requires.open
+    c.requires.sound c.requires.busy c.requires.taken c.requires.follows c.requires.turn c.poll.new.self c.in_ok-poll.poll c.after_remap_poll.new.self c.counted-self.result
+    c.after_remap_poll.result c.requires.part c.requires.open
     (record { polled = c.in_ok-poll.ensures.polled; legal = c.in_ok-poll.ensures.legal; cost = c.in_ok-poll.ensures.cost })
     c.in_ok-poll.ensures.follows c.in_ok-poll.ensures.sound (c.counted-self.ensures ∙ ap (λ (k : ℕ). counted c.in_ok-poll.poll c.args.self.now.calls k) c.calls.ensures)
     c.after_remap_poll.ensures.next c.after_remap_poll.ensures.course).polled
 
 pub returns-clause-sound : goal.returns-clause-sound
 returns-clause-sound g c = (remap_came (g.P.Port.client c.args.port.now) (g.P.Port.front c.args.port.now) (g.P.Port.front c.poll.new.port) c.args.self.now
-    c.requires.sound c.requires.busy c.requires.taken c.requires.follows c.poll.new.self c.in_ok-poll.poll c.after_remap_poll.new.self c.counted-self.result
-    c.after_remap_poll.result c.requires.turn c.requires.open
+    c.requires.sound c.requires.busy c.requires.taken c.requires.follows c.requires.turn c.poll.new.self c.in_ok-poll.poll c.after_remap_poll.new.self c.counted-self.result
+    c.after_remap_poll.result c.requires.part c.requires.open
     (record { polled = c.in_ok-poll.ensures.polled; legal = c.in_ok-poll.ensures.legal; cost = c.in_ok-poll.ensures.cost })
     c.in_ok-poll.ensures.follows c.in_ok-poll.ensures.sound (c.counted-self.ensures ∙ ap (λ (k : ℕ). counted c.in_ok-poll.poll c.args.self.now.calls k) c.calls.ensures)
     c.after_remap_poll.ensures.next c.after_remap_poll.ensures.course).sound
 
 pub returns-clause-follows : goal.returns-clause-follows
 returns-clause-follows g c = (remap_came (g.P.Port.client c.args.port.now) (g.P.Port.front c.args.port.now) (g.P.Port.front c.poll.new.port) c.args.self.now
-    c.requires.sound c.requires.busy c.requires.taken c.requires.follows c.poll.new.self c.in_ok-poll.poll c.after_remap_poll.new.self c.counted-self.result
-    c.after_remap_poll.result c.requires.turn c.requires.open
+    c.requires.sound c.requires.busy c.requires.taken c.requires.follows c.requires.turn c.poll.new.self c.in_ok-poll.poll c.after_remap_poll.new.self c.counted-self.result
+    c.after_remap_poll.result c.requires.part c.requires.open
     (record { polled = c.in_ok-poll.ensures.polled; legal = c.in_ok-poll.ensures.legal; cost = c.in_ok-poll.ensures.cost })
     c.in_ok-poll.ensures.follows c.in_ok-poll.ensures.sound (c.counted-self.ensures ∙ ap (λ (k : ℕ). counted c.in_ok-poll.poll c.args.self.now.calls k) c.calls.ensures)
     c.after_remap_poll.ensures.next c.after_remap_poll.ensures.course).follows
@@ -55,3 +55,16 @@ pub returns-clause-fault : goal.returns-clause-fault
 returns-clause-fault g c = λ h. c.in_ok-poll.ensures.fault (ap Ok (of_fault WriteAnswer (after_remap_writer c.args.self.now.course c.args.self.now.course.step) c.args.self.now.course
     c.after_remap_poll.new.self c.in_ok-poll.poll c.after_remap_poll.result c.after_remap_poll.ensures.next
     c.after_remap_poll.ensures.forth (let same : c.after_remap_poll.result ≡ polls.Fault = cc in same)))
+
+pub returns-in_err-poll-clause-turn : goal.returns-in_err-poll-clause-turn
+returns-in_err-poll-clause-turn g c = (remap_left (g.P.Port.client c.args.port.now) (g.P.Port.front c.args.port.now) (g.P.Port.front c.poll.new.port) c.args.self.now
+    c.requires.sound c.requires.busy c.requires.taken c.requires.follows c.requires.turn c.poll.new.self c.requires.part c.requires.open c.in_err-poll.ensures.memory
+    c.in_err-poll.ensures.follows c.in_err-poll.ensures.sound).turn
+
+pub returns-clause-turn : goal.returns-clause-turn
+returns-clause-turn g c = (remap_came (g.P.Port.client c.args.port.now) (g.P.Port.front c.args.port.now) (g.P.Port.front c.poll.new.port) c.args.self.now
+    c.requires.sound c.requires.busy c.requires.taken c.requires.follows c.requires.turn c.poll.new.self c.in_ok-poll.poll c.after_remap_poll.new.self c.counted-self.result
+    c.after_remap_poll.result c.requires.part c.requires.open
+    (record { polled = c.in_ok-poll.ensures.polled; legal = c.in_ok-poll.ensures.legal; cost = c.in_ok-poll.ensures.cost })
+    c.in_ok-poll.ensures.follows c.in_ok-poll.ensures.sound (c.counted-self.ensures ∙ ap (λ (k : ℕ). counted c.in_ok-poll.poll c.args.self.now.calls k) c.calls.ensures)
+    c.after_remap_poll.ensures.next c.after_remap_poll.ensures.course).turn

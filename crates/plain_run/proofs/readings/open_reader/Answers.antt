@@ -6,7 +6,7 @@ use Rattle.read_client.specs.Machining.{Ended, kept, machine}
 use Rattle.plain_run.specs.Drives.{Driven, Failed}
 use Rattle.driving.specs.Goings.{Goes}
 use Rattle.plain_run.proofs.SessionLaws.{JoinsReader, opens_reader}
-use Rattle.plain_run.proofs.sessions.open_reader.Goals as goal
+use Rattle.plain_run.proofs.readings.open_reader.Goals as goal
 
 pub returns-in_err-answer-clause-told : goal.returns-in_err-answer-clause-told
 returns-in_err-answer-clause-told g c =
