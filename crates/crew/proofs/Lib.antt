@@ -4,6 +4,8 @@ mod Crossing
 mod CollectTurning
 mod CrewEnds
 mod Endings
+mod FollowCarries
+mod FollowFresh
 mod Looping
 mod MeansGrown
 mod MergeBeginnings

@@ -31,7 +31,7 @@ use Rattle.crew.specs.Turns.{IsFaulted, IsMarked, TurnMeans, Turned}
 use Rattle.crew.proofs.TurnEnds.{fault_failed, goes_on_for, polled_few, unpolled_few}
 
 -- the entries of others are none of the client's own
-own_same : (client : ℕ) (h : History) (others : List Entry) → OfOthers client others →
+pub own_same : (client : ℕ) (h : History) (others : List Entry) → OfOthers client others →
     mine_back h.start (reverse (h.trail ++ others)) client ≡ mine_back h.start (reverse h.trail) client
 own_same client h others of =
     ap (λ (es : List Entry). mine_back h.start es client) (turned h others)
