@@ -3,7 +3,8 @@ ghost use Rattle.store_core.specs.Histories.{IsScanFrom};
 ghost use Rattle.load_core.specs.Trying.{IsSound};
 
 use load_core::*;
-use state_core::{Kind, Transition, VersionFault};
+use state_core::{Kind, Transition};
+use version_codec::VersionFault;
 use std::alloc::Global;
 use std::test::Fail;
 use store_core::{

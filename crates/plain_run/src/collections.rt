@@ -1,5 +1,6 @@
 // The plain collection, kept as one list.
 ghost use Rattle.std.specs.Prelude.{◌≡◌, IfOk, OnOk, OnErr, None, Some, ◌&&◌, position};
+ghost use Rattle.update_core.specs.Limits.{max_weight};
 ghost use Rattle.update_core.specs.Collections.{empty_collection, append_answer, after_append, snapshot_answer, listen_answer, is_closed, is_past};
 ghost use Rattle.update_core.specs.Updates.{weight_of};
 ghost use Rattle.plain_run.specs.PlainRuns.{append_reply, append_text, collection_after, collection_since, is_outside, listen_text, since_reply, snapshot_text};
@@ -30,7 +31,7 @@ impl Model for PlainCollection {
 
     ghost view = { λ c. record { updates = c.updates; since = c.since; upper = c.upper; weight = c.weight } };
 
-    ghost invariant = { λ c. (weight_of c.updates ≤ c.weight) × (c.weight ≤ 2 ^ 62) };
+    ghost invariant = { λ c. (weight_of c.updates ≤ c.weight) × (c.weight ≤ max_weight) };
 }
 
 /// The place of the first row that is outside the append's range.

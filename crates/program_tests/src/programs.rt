@@ -7,7 +7,8 @@ use causes::NumberList;
 use feed_text::{Feed, FeedLine, MemSink, MemSource, RunReply, parse_feed, print_reply};
 use persist_app::*;
 use plain_run::PlainCollection;
-use state_core::{Transition, decode_version};
+use state_core::Transition;
+use version_codec::decode_version;
 use std::alloc::{AllocError, Global};
 use std::test::Fail;
 use store_core::{

@@ -6,7 +6,7 @@ use Rattle.update_core.specs.declared.rows.Row.{Row}
 use Rattle.update_core.specs.declared.updates.Update.{Update}
 use Rattle.update_core.specs.Frontiers.{after, covers, frontier_cmp}
 use Rattle.update_core.specs.Updates.{OutOf, moved, slice_of, sum_of}
-use Rattle.state_core.specs.VersionReading.{most}
+use Rattle.update_core.specs.Limits.{most}
 use Rattle.history_core.specs.declared.read_answers.ReadAnswer.TheVariants as reads
 use Rattle.remap_core.specs.declared.source_rows.SourceRow.{SourceRow}
 use Rattle.remap_core.specs.Offsets.{offset, unset}

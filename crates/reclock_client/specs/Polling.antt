@@ -5,7 +5,7 @@ use Rattle.update_core.specs.declared.updates.Update.{Update}
 use Rattle.update_core.specs.Frontiers.{after}
 use Rattle.store_core.specs.Histories.{History}
 use Rattle.state_core.specs.declared.transitions.Transition.TheVariants.{Init, Leave}
-use Rattle.state_core.specs.VersionReading.{most}
+use Rattle.update_core.specs.Limits.{most}
 use Rattle.history_core.specs.declared.asked.Asked.TheVariants as asks
 use Rattle.history_core.specs.declared.read_answers.ReadAnswer.{ReadAnswer}
 use Rattle.history_core.specs.declared.write_answers.WriteAnswer.{WriteAnswer}

@@ -1,7 +1,7 @@
 // Versions to change.
 use crate::answers::Answer;
 use anyhow::{Context, Result, bail};
-use state_core::{VersionFault, decode_version, encode_version};
+use version_codec::{VersionFault, decode_version, encode_version};
 use std::alloc::Global;
 use store_core::ShardId;
 
