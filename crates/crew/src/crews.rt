@@ -157,9 +157,10 @@ fn make_ends(alloc: Global, plan: &Plan) -> Result<Vec<WorkerEnd>, AllocError>
 /// Workers try the plan's appends at the store, merge what is due and collect what lies below the floor, each in a thread of its own, until
 /// all have ended. The moment is the one at which the leases of compactors begin, and to which the pin is renewed. Client 0, as which the
 /// pin reads, makes no call meanwhile unless there are collectors, and then those of the first one, which holds the pin, a reader of the
-/// shard, and renews it before each round. The pin follows also afterwards; a renewal of it may be open where the first collector ended
-/// early. Where there are no collectors, or a command of it is open, it comes back as it was. The store and the pin come back as they were
-/// handed in where memory was refused before any worker started. This waits for the workers. (docs/DEFINITIONS.md, "Crews that run".)
+/// shard: it commits nothing but renewals of a reader that this client joined. The pin follows also afterwards; a renewal of it may be open
+/// where the first collector ended early. Where there are no collectors, or a command of it is open, it comes back as it was. The store and
+/// the pin come back as they were handed in where memory was refused before any worker started. This waits for the workers.
+/// (docs/DEFINITIONS.md, "Crews that run".)
 pub fn run_crew<S: Store + Send, G: Gate + Sync, R: Threads + Wait + Sync>(
     rt: &R,
     alloc: Global,

@@ -15,11 +15,11 @@ ghost use Rattle.history_core.specs.Walks.{number_given, number_past, rows_given
 
 use part_codec::{PartFault, decode_part};
 use state_core::{State, Transition};
-use version_codec::{VersionFault, decode_version};
 use std::alloc::{AllocError, Global};
 use std::collections::BTreeMap;
 use store_core::{Bytes, Call, Entry, Outcome, PartKey, ShardId};
 use update_core::UpdateList;
+use version_codec::{VersionFault, decode_version};
 
 /// The number of the last version, once a Cas has committed; the bytes of the keys that were set; and a list with the rows
 /// that were appended.

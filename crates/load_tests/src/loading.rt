@@ -4,13 +4,13 @@ ghost use Rattle.load_core.specs.Trying.{IsSound};
 
 use load_core::*;
 use state_core::{Kind, Transition};
-use version_codec::VersionFault;
 use std::alloc::Global;
 use std::test::Fail;
 use store_core::{
     Bytes, DirectPort, FaultAt, FaultList, MemStore, Port, Reply, ShardId, Turn, Version,
     VersionList,
 };
+use version_codec::VersionFault;
 
 const SHARD: ShardId = ShardId(1);
 

@@ -9,9 +9,9 @@ ghost use Rattle.maint_client.specs.Sweeping.{swept, taken_after, with_keys};
 use load_core::{Damage, Unread, newest_of};
 use spine_core::KeyList;
 use state_core::Transition;
-use version_codec::{VersionFault, decode_version};
 use std::alloc::{AllocError, Global};
 use store_core::{Call, PartKey, ShardId, Version};
+use version_codec::{VersionFault, decode_version};
 
 /// The greatest count of keys of one collection. More of them are want of memory.
 const MAX_KEYS: usize = 1 << 62;

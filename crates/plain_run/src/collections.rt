@@ -1,6 +1,5 @@
 // The plain collection, kept as one list.
 ghost use Rattle.std.specs.Prelude.{◌≡◌, IfOk, OnOk, OnErr, None, Some, ◌&&◌, position};
-ghost use Rattle.update_core.specs.Limits.{max_weight};
 ghost use Rattle.update_core.specs.Collections.{empty_collection, append_answer, after_append, snapshot_answer, listen_answer, is_closed, is_past};
 ghost use Rattle.update_core.specs.Updates.{weight_of};
 ghost use Rattle.plain_run.specs.PlainRuns.{append_reply, append_text, collection_after, collection_since, is_outside, listen_text, since_reply, snapshot_text};
@@ -23,8 +22,9 @@ pub struct PlainCollection {
 }
 
 impl Model for PlainCollection {
-    ghost use Rattle.std.specs.Prelude.{◌^◌, ◌≤◌};
+    ghost use Rattle.std.specs.Prelude.{◌≤◌};
     ghost use Rattle.update_core.specs.Collections.{Collection};
+    ghost use Rattle.update_core.specs.Limits.{max_weight};
     ghost use Rattle.update_core.specs.Updates.{weight_of};
 
     ghost Value = { Collection };

@@ -8,7 +8,6 @@ use feed_text::{Feed, FeedLine, MemSink, MemSource, RunReply, parse_feed, print_
 use persist_app::*;
 use plain_run::PlainCollection;
 use state_core::Transition;
-use version_codec::decode_version;
 use std::alloc::{AllocError, Global};
 use std::test::Fail;
 use store_core::{
@@ -16,6 +15,7 @@ use store_core::{
     ShardList, Store, Version,
 };
 use update_core::Frontier;
+use version_codec::decode_version;
 
 fn numbers(alloc: Global, items: &[u64]) -> Result<NumberList, AllocError> {
     let mut numbers = NumberList::new(alloc);
