@@ -2,7 +2,7 @@
 ghost use Rattle.std.specs.Prelude.{◌≡◌, ◌≤◌};
 ghost use Rattle.crew.specs.Plans.{job_of, workers_of};
 
-use crate::stops::StopList;
+use crew_workers::StopList;
 use appends_core::AppendList;
 use crew_core::Job;
 use store_core::ShardId;
