@@ -1,7 +1,8 @@
 -- Questions that are asked in turn. Entries go newest first.
-use Rattle.std.proofs.Common.{◌≡◌, ℕ, suc, ◌+◌, ◌<◌, Option, Result, Ok, Err, List, [], ◌∷◌, ◌++◌, length, get_or, drop, refl, sym, ap, subst, ◌∙◌}
+use Rattle.std.proofs.Common.{◌≡◌, ℕ, suc, ◌+◌, ◌<◌, Option, Result, Ok, Err, List, [], ◌∷◌, ◌++◌, length, slice_index_or, drop, refl, sym, ap, subst, ◌∙◌}
 use Rattle.std.proofs.Common.{append_assoc, append-nil, arith}
 use Rattle.std.specs.List.{AllByRecursion, flat_map}
+use Rattle.std.proofs.lemmas.List.{drop_more}
 use Rattle.std.proofs.lemmas.List.Concat.{flat_map-cons}
 use Rattle.update_core.specs.declared.updates.Update.{Update}
 use Rattle.update_core.specs.Collections.{Collection, listen_answer, snapshot_answer}
@@ -20,7 +21,8 @@ use Rattle.driving.specs.Goings.{Goes}
 use Rattle.driving.proofs.GoingLaws.{Between, going_so, more_going, no_going}
 use Rattle.plain_run.specs.declared.session_faults.SessionFault.{SessionFault}
 use Rattle.plain_run.specs.declared.session_faults.SessionFault.TheVariants as outside
-use Rattle.plain_run.specs.Answering.{Replies, StillSettled}
+use Rattle.read_client.specs.declared.readers.Reader.{Reader}
+use Rattle.plain_run.specs.Answering.{Replies, StillSettled, number_of}
 use Rattle.plain_run.specs.PlainRuns.{View, listen_text, plain_replies, plain_run, reply_to, snapshot_text, view_after}
 use Rattle.plain_run.specs.Sessions.{ViewAt}
 use Rattle.plain_run.specs.Settling.{StaysSettled}
@@ -71,6 +73,15 @@ cons_run view q more is = ap (λ (rs : List RunReply). flat_map reply_text rs) (
     ∙ flat_map-cons reply_text (reply_to view q) (plain_replies view more)
 
 -- ---- one after the other
+
+-- the next question
+pub next_question : (qs : List FeedLine) (i : ℕ) (q : FeedLine) → i < length qs → q ≡ slice_index_or qs i q →
+    drop i qs ≡ q ∷ drop (i + 1) qs
+next_question qs i q lt is = drop_more qs i q lt ∙ ap (λ (x : FeedLine). x ∷ drop (i + 1) qs) (sym is)
+
+-- a reader that keeps its member keeps its number
+pub same_number : (old new : Reader) → new.member ≡ old.member → number_of new ≡ number_of old
+same_number old new same = cc
 
 module _ (shard : ShardId) (reader : ℕ) where
   -- so many are answered: with those that are left the text is that of all

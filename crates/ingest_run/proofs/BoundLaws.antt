@@ -1,7 +1,8 @@
 -- Where a feed's appends begin, and what they weigh from there on.
-use Rattle.std.proofs.Common.{◌≡◌, ◌≢◌, ◌⊎◌, ℕ, ◌+◌, ◌≤◌, ◌^◌, Bool, true, false, Option, Some, None, List, [], ◌∷◌, inl, inr, refl, sym, ap, subst, ◌∙◌, arith}
+use Rattle.std.proofs.Common.{◌≡◌, ◌≢◌, ◌⊎◌, ℕ, ◌+◌, ◌≤◌, ◌^◌, Bool, true, false, Option, Some, None, List, [], ◌∷◌, ◌<◌, length, drop, slice_index_or, inl, inr, refl, sym, ap, subst, ◌∙◌, arith}
 use Rattle.std.specs.Prelude.{◌↔◌, ◌==◌, IsTrue, if◌then◌else◌}
 use Rattle.std.proofs.lemmas.Bool.Decides.{nat_tests}
+use Rattle.std.proofs.lemmas.List.{drop_more}
 use Rattle.update_core.specs.declared.appends.FeedAppend.{FeedAppend}
 use Rattle.update_core.specs.Frontiers.{is_at}
 use Rattle.update_core.specs.Updates.{weight_of}
@@ -87,3 +88,20 @@ from_less u (x ∷ xs) = elim (bool_cases (is_at u x.lower)) [
   | inl t ↦ rw t (omega arith)
   | inr t ↦ let less = from_less u xs in rw t (omega (arith, less))
 ]
+
+-- so a sum of the first of them is no more either
+pub sum_all : (begun : Bool) (u : Option ℕ) (xs : List FeedAppend) (i sum : ℕ) →
+    sum + left_from begun u (drop i xs) ≡ weight_of_all (from_upper u xs) → weight_of_all xs ≤ 2 ^ 62 → sum ≤ 2 ^ 62
+sum_all begun u xs i sum is light = let less = from_less u xs in omega (arith, is, light, less)
+
+-- nor with the next one
+pub added_small : (begun : Bool) (u : Option ℕ) (xs : List FeedAppend) (i : ℕ) (x : FeedAppend) (counts : Bool) (added sum : ℕ) →
+    i < length xs → x ≡ slice_index_or xs i x → counts ≡ (if begun then true else is_at u x.lower) →
+    added ≡ (if counts then weight_of x.rows else 0) → sum + left_from begun u (drop i xs) ≡ weight_of_all (from_upper u xs) →
+    weight_of_all xs ≤ 2 ^ 62 → sum + added ≤ 2 ^ 62
+added_small begun u xs i x counts added sum lt at is much so_far light =
+    let next : drop i xs ≡ x ∷ drop (i + 1) xs = drop_more xs i x lt ∙ ap (λ (y : FeedAppend). y ∷ drop (i + 1) xs) (sym at) in
+    let left : left_from begun u (drop i xs) ≡ left_from begun u (x ∷ drop (i + 1) xs) = ap (left_from begun u) next in
+    let step = left_step begun u x (drop (i + 1) xs) counts added is much in
+    let less = from_less u xs in
+    omega (arith, left, step, so_far, light, less)

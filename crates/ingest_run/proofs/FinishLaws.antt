@@ -38,10 +38,16 @@ IsOfCrew faults.Spent = ⊤
 IsOfCrew faults.MembersFull = ⊤
 IsOfCrew _ = ⊥
 
-err_is : (e f : IngestFault) → Err {A = Unit} e ≡ Err f → e ≡ f
+abbrev short : IngestFault → Result Unit IngestFault
+short e = Err e
+
+abbrev whole : Result Unit IngestFault
+whole = Ok tt
+
+err_is : (e f : IngestFault) → short e ≡ short f → e ≡ f
 err_is e f h = cc
 
-never : (fault : IngestFault) → Ok {E = IngestFault} tt ≡ Err fault → ⊥
+never : (fault : IngestFault) → whole ≡ short fault → ⊥
 never fault h = cc
 
 -- the verdict on ends is one of these four

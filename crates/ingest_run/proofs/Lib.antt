@@ -2,6 +2,7 @@ mod LookRule
 mod LookLaws
 mod FaultLaws
 mod BoundLaws
+mod EndLaws
 mod BeginLaws
 mod CrewGoes
 mod AskLaws

@@ -25,7 +25,7 @@ use Rattle.plain_run.specs.Sessions.{StartsAt, ViewAt, joining_view}
 use Rattle.plain_run.proofs.DriveLaws.{Unmoved, lawful_last, unmoved}
 use Rattle.plain_run.proofs.Quietly.{none_starts, quiet_none, quiet_start, quiet_stays, quiet_view}
 use Rattle.plain_run.proofs.Stepped.{step_commits}
-use Rattle.plain_run.proofs.Views.{one_last, starts_last}
+use Rattle.plain_run.proofs.Views.{one_last}
 use Rattle.ingest_run.specs.declared.extents.Extent.{Extent}
 use Rattle.ingest_run.specs.Looking.{ExtentAt, Looks, Reaches, Saw, extent_of, kept_look, machine}
 use Rattle.ingest_run.proofs.LookRule.{none_applies}

@@ -36,10 +36,8 @@ fn take_since<S: Store>(
     let Some(to) = since else {
         return Ok(());
     };
-    match advance_reader(alloc, reader, port, place, to) {
-        Ok(_) => Ok(()),
-        Err(fault) => Err(fault),
-    }
+    advance_reader(alloc, reader, port, place, to)?;
+    Ok(())
 }
 
 // A reader that has joined and has the feed's since.

@@ -45,3 +45,7 @@ returns-clause-told g c =
     (subst (λ (k : TryKept ⊤). Goes c.args.place.shard a d (Answered machine c.args.place.reader k x)) k_is
     (drive_answers c.args.place.shard machine c.args.place.reader (kept looking c.begun_look-looker.result) own a d x
     c.in_ok-extent.ensures.told))
+
+pub drive-requires-clause-follows : goal.drive-requires-clause-follows
+drive-requires-clause-follows g c =
+    c.begun_look-looker.ensures.follows c.args.place.reader (g.S.Store.history c.args.port.now.store)
