@@ -53,17 +53,29 @@ module _ (shard : ShardId) where
       (list : List Update) (start : Stored) (es mid : List Entry) → Between shard list start es mid → first list start es mid →
       (view : View) → ViewAt shard list start es reader view → (next : View) × ViewAt shard list start mid reader next
 
+  -- another stands after what comes first
+  abbrev pub LeadsTo : ℕ → ℕ → (List Update → Stored → List Entry → List Entry → Type 0) → Type 0
+  LeadsTo reader other first =
+      (list : List Update) (start : Stored) (es mid : List Entry) → Between shard list start es mid → first list start es mid →
+      (view : View) → ViewAt shard list start es reader view → (next : View) × ViewAt shard list start mid other next
+
+  -- after earlier entries, with another reader
+  pub fault_over : (a b d : Option History) (reader other : ℕ) (first : List Update → Stored → List Entry → List Entry → Type 0)
+      (fault : SessionFault) → LeadsTo reader other first → Goes shard a b first → Goes shard b d (FaultAt shard other fault) →
+      Goes shard a d (FaultAt shard reader fault)
+  fault_over a b d reader other first outside.Memory leads x y = failed_more (somewhere shard) a b d first outside.Memory x y
+  fault_over a b d reader other first outside.Store leads x y = failed_more (somewhere shard) a b d first outside.Store x y
+  fault_over a b d reader other first outside.Damaged leads x y =
+      more_going shard a b d first (FaultAt shard other outside.Damaged) (FaultAt shard reader outside.Damaged) x y
+      (λ list start es mid now b1 b2 f g view v. let (next, at) = leads list start es mid b1 f view v in g next at)
+  fault_over a b d reader other first outside.MembersFull leads x y = failed_more (somewhere shard) a b d first outside.MembersFull x y
+  fault_over a b d reader other first outside.Spent leads x y = failed_more (somewhere shard) a b d first outside.Spent x y
+
   -- after earlier entries
   pub fault_later : (a b d : Option History) (reader : ℕ) (first : List Update → Stored → List Entry → List Entry → Type 0)
       (fault : SessionFault) → KeepsReader reader first → Goes shard a b first → Goes shard b d (FaultAt shard reader fault) →
       Goes shard a d (FaultAt shard reader fault)
-  fault_later a b d reader first outside.Memory keeps x y = failed_more (somewhere shard) a b d first outside.Memory x y
-  fault_later a b d reader first outside.Store keeps x y = failed_more (somewhere shard) a b d first outside.Store x y
-  fault_later a b d reader first outside.Damaged keeps x y =
-      more_going shard a b d first (FaultAt shard reader outside.Damaged) (FaultAt shard reader outside.Damaged) x y
-      (λ list start es mid now b1 b2 f g view v. let (next, at) = keeps list start es mid b1 f view v in g next at)
-  fault_later a b d reader first outside.MembersFull keeps x y = failed_more (somewhere shard) a b d first outside.MembersFull x y
-  fault_later a b d reader first outside.Spent keeps x y = failed_more (somewhere shard) a b d first outside.Spent x y
+  fault_later a b d reader first fault keeps x y = fault_over a b d reader reader first fault keeps x y
 
   -- the reader stands after what comes first, from a run's start on
   abbrev pub BringsReader : ℕ → (List Update → Stored → List Entry → List Entry → Type 0) → Type 0

@@ -1,8 +1,10 @@
 -- What is done after a crew. Entries go newest first.
 use Rattle.std.proofs.Common.{◌≡◌, ◌≢◌, ◌⊎◌, inl, inr, true, false, ℕ, ◌+◌, ◌<◌, Option, Result, Ok, Err, List, ◌++◌, refl, sym, ap, subst, ◌∙◌, arith}
 use Rattle.std.specs.Prelude.{⊤}
+use Rattle.std.specs.List.{AllByRecursion}
 use Rattle.update_core.specs.declared.updates.Update.{Update}
 use Rattle.update_core.specs.declared.appends.FeedAppend.{FeedAppend}
+use Rattle.update_core.specs.Collections.{Collection}
 use Rattle.store_core.specs.declared.shards.ShardId.{ShardId}
 use Rattle.store_core.specs.declared.entries.Entry.{Entry}
 use Rattle.store_core.specs.Stores.{Stored}
@@ -17,9 +19,11 @@ use Rattle.driving.specs.Goings.{Goes}
 use Rattle.driving.proofs.GoingLaws.{Between, going_so, more_going, no_going}
 use Rattle.plain_run.specs.declared.session_faults.SessionFault.{SessionFault}
 use Rattle.plain_run.specs.declared.session_faults.SessionFault.TheVariants as outside
-use Rattle.plain_run.specs.Answering.{Closed, TendsTo}
+use Rattle.ingest_text.specs.Feeds.{IsQuery}
+use Rattle.read_client.specs.declared.readers.Reader.{Reader}
+use Rattle.plain_run.specs.Answering.{Closed, OpensReader, TendsTo, number_of}
 use Rattle.plain_run.specs.PlainRuns.{View, plain_run}
-use Rattle.plain_run.specs.Sessions.{ViewAt}
+use Rattle.plain_run.specs.Sessions.{ViewAt, joining_view}
 use Rattle.plain_run.specs.Settling.{GetsSettled, IsSettledIn, StaysSettled}
 use Rattle.plain_run.proofs.Views.{view_accepted}
 use Rattle.ingest_run.specs.declared.extents.Extent.{Extent}
@@ -28,7 +32,8 @@ use Rattle.ingest_run.specs.declared.faults.IngestFault.TheVariants as faults
 use Rattle.ingest_run.specs.Ends.{Answers, AsksAll, FaultAt, Finishes, Reports, SeesEnd, SettlesBy, ShortAt}
 use Rattle.ingest_run.specs.Looking.{Looks}
 use Rattle.ingest_run.specs.Verdicts.{any_end, are_halted, crew_verdict, has_found_damage, is_full_end, is_memory_end, is_spent_end, short_of_end}
-use Rattle.ingest_run.proofs.FaultLaws.{fault_later, failed_fault, tends_fault}
+use Rattle.ingest_run.proofs.AskLaws.{same_run}
+use Rattle.ingest_run.proofs.FaultLaws.{failed_fault, fault_later, fault_over, tends_fault}
 
 -- it is found by a worker
 abbrev IsOfCrew : IngestFault → Type 0
@@ -204,29 +209,55 @@ module _ (shard : ShardId) where
       by (faults.Misfit upper) h = absurd h
       by (faults.Heavy weight) h = absurd h
 
+  -- the upper is where the appends end, and another reader has joined that sees the same collection
+  abbrev pub Resumes : ℕ → List FeedAppend → ℕ → List Update → Stored → List Entry → List Entry → Type 0
+  Resumes reader appends other list start es now =
+      (view : View) → ViewAt shard list start es reader view →
+      (view.collection.upper ≡ end_of_feed appends) ×
+      ((next : View) × (next.collection ≡ view.collection) × ViewAt shard list start now other next)
+
+  pub resumed : (a b d : Option History) (reader : ℕ) (appends : List FeedAppend) (new : Reader) →
+      Goes shard a b (SeesEnd shard reader appends (Ok tt)) → Goes shard b d (OpensReader shard (Ok new)) →
+      Goes shard a d (Resumes reader appends (number_of new))
+  resumed a b d reader appends new x y =
+      more_going shard a b d (SeesEnd shard reader appends (Ok tt)) (OpensReader shard (Ok new)) (Resumes reader appends (number_of new)) x y
+      (λ list start es mid now b1 b2 f opened view v.
+      let (at_end, at) = f view v in
+      let next = joining_view (accepted shard list start mid) at.state in
+      (at_end, (next, sym at.collection, opened next (inr (at.number, at.state, at.last, refl)))))
+
   -- after a look that found the end
-  pub finished_all : (a b d : Option History) (reader compactors : ℕ) (appends : List FeedAppend) (queries : List FeedLine) (text now : List ℕ) →
-      Goes shard a b (SeesEnd shard reader appends (Ok tt)) → Goes shard b d (Reports shard reader queries compactors text now (Ok tt)) →
+  pub finished_all : (a b d : Option History) (reader other compactors : ℕ) (appends : List FeedAppend) (queries : List FeedLine)
+      (text now : List ℕ) → AllByRecursion IsQuery queries → Goes shard a b (Resumes reader appends other) →
+      Goes shard b d (Reports shard other queries compactors text now (Ok tt)) →
       Goes shard a d (Finishes shard reader appends queries compactors text now (Ok tt))
-  finished_all a b d reader compactors appends queries text now x y =
-      more_going shard a b d (SeesEnd shard reader appends (Ok tt)) (Reports shard reader queries compactors text now (Ok tt))
+  finished_all a b d reader other compactors appends queries text now all x y =
+      more_going shard a b d (Resumes reader appends other) (Reports shard other queries compactors text now (Ok tt))
       (Finishes shard reader appends queries compactors text now (Ok tt)) x y
       (λ list start es mid fs b1 b2 f g view v.
-      let (at_end, at) = f view v in
-      let (is, rests) = g view at in (
+      let (at_end, next, same, at) = f view v in
+      let (is, rests) = g next at in (
         at_end,
-        is,
+        is ∙ ap (λ (t : List ℕ). text ++ t) (same_run next view queries all same),
         record {
-          accepts = rests.accepts ∙ view_accepted shard list start mid reader view at
+          accepts = rests.accepts ∙ view_accepted shard list start mid other next at ∙ ap (λ (c : Collection). c.updates) same
               ∙ sym (view_accepted shard list start es reader view v);
           settled = rests.settled;
         },
       ))
 
-  pub finished_not : (a b d : Option History) (reader compactors : ℕ) (appends : List FeedAppend) (queries : List FeedLine) (text now : List ℕ)
-      (fault : SessionFault) → Goes shard a b (SeesEnd shard reader appends (Ok tt)) →
-      Goes shard b d (Reports shard reader queries compactors text now (Err fault)) →
+  pub finished_not : (a b d : Option History) (reader other compactors : ℕ) (appends : List FeedAppend) (queries : List FeedLine)
+      (text now : List ℕ) (fault : SessionFault) → Goes shard a b (Resumes reader appends other) →
+      Goes shard b d (Reports shard other queries compactors text now (Err fault)) →
       Goes shard a d (ShortAt shard reader appends (faults.Outside fault))
-  finished_not a b d reader compactors appends queries text now fault x y =
+  finished_not a b d reader other compactors appends queries text now fault x y =
+      fault_over shard a b d reader other (Resumes reader appends other) fault
+      (λ list start es mid b1 f view v. let (at_end, next, same, at) = f view v in (next, at)) x y
+
+  -- no reader has joined
+  pub finished_unjoined : (a b d : Option History) (reader : ℕ) (appends : List FeedAppend) (fault : SessionFault) →
+      Goes shard a b (SeesEnd shard reader appends (Ok tt)) → Goes shard b d (OpensReader shard (Err fault)) →
+      Goes shard a d (ShortAt shard reader appends (faults.Outside fault))
+  finished_unjoined a b d reader appends fault x y =
       fault_later shard a b d reader (SeesEnd shard reader appends (Ok tt)) fault
-      (λ list start es mid b1 f view v. (view, (f view v).1)) x y
+      (λ list start es mid b1 f view v. (view, (f view v).1)) x (failed_fault shard b d reader fault y)

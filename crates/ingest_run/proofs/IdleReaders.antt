@@ -1,6 +1,6 @@
 -- A reader with no open command follows past all that comes to a history. Entries go newest first.
-use Rattle.std.proofs.Common.{◌≡◌, ◌≢◌, ℕ, Option, Some, None, true, false, List, [], ◌∷◌, ◌++◌, inl, inr, refl, sym, ap, subst, ◌∙◌, arith}
-use Rattle.std.specs.Prelude.{◌==◌, reverse}
+use Rattle.std.proofs.Common.{◌≡◌, ◌≢◌, ℕ, zero, suc, Option, Some, None, true, false, List, [], ◌∷◌, ◌++◌, inl, inr, refl, sym, ap, subst, ◌∙◌, arith}
+use Rattle.std.specs.Prelude.{◌==◌, ◌<◌, ◌⊎◌, IfSome, reverse}
 use Rattle.std.proofs.lemmas.Bool.Decides.{nat_tests}
 use Rattle.store_core.specs.declared.shards.ShardId.{ShardId}
 use Rattle.store_core.specs.declared.entries.Entry.{Entry}
@@ -14,9 +14,15 @@ use Rattle.state_core.proofs.ListLemmas.{bool_cases}
 use Rattle.read_client.specs.declared.readers.Reader.{Reader}
 use Rattle.read_client.specs.Following.{Follows, FollowsWhere}
 use Rattle.read_client.proofs.Machining.{keeps, not_open}
+use Rattle.read_client.specs.Reading.{IsSound, shard_of}
+use Rattle.crew.specs.declared.ends.WorkerEnd.{WorkerEnd}
+use Rattle.crew.specs.declared.plans.Plan.{Plan}
+use Rattle.crew.specs.Crews.{LeavesPin}
+use Rattle.crew.specs.Pinning.{IsPinOf}
 use Rattle.driving.specs.Goings.{Goes}
 use Rattle.driving.specs.StoreTurns.{Grown}
 use Rattle.plain_run.specs.Answering.{ReaderReady}
+use Rattle.ingest_run.specs.Idling.{IsIdle}
 
 same : (a b : ℕ) → (a == b) ≡ true → a ≡ b
 same a b h = grind (arith, nat_tests)
@@ -58,4 +64,60 @@ idle_ready shard client r a b how went ready = record {
   follows = idle_follows shard client r a b how ready.free went ready.follows;
   free = ready.free;
   member = ready.member;
+}
+
+pub idle_past : (shard : ShardId) (client : ℕ) (r : Reader) (a b : Option History)
+    (how : List Update → Stored → List Entry → List Entry → Type 0) → Goes shard a b how → IsIdle shard client a r → IsIdle shard client b r
+idle_past shard client r a b how went idle = record {
+  shard = idle.shard;
+  sound = idle.sound;
+  follows = idle_follows shard client r a b how idle.free went idle.follows;
+  free = idle.free;
+}
+
+pub some_idle_past : (shard : ShardId) (client : ℕ) (pin : Option Reader) (a b : Option History)
+    (how : List Update → Stored → List Entry → List Entry → Type 0) → Goes shard a b how → IfSome pin (IsIdle shard client a) →
+    IfSome pin (IsIdle shard client b)
+some_idle_past shard client None a b how went idle = tt
+some_idle_past shard client (Some r) a b how went idle = idle_past shard client r a b how went idle
+
+-- a pin that isn't busy is idle
+pub kept_idle : (shard : ShardId) (client : ℕ) (front : Option History) (pin : Reader) (kept : Option Reader) →
+    IfSome kept (λ r. (r ≡ pin) × (r.asked ≡ None)) → IsPinOf shard client front pin → IfSome kept (IsIdle shard client front)
+kept_idle shard client front pin None is pinned = tt
+kept_idle shard client front pin (Some r) (same, free) pinned = record {
+  shard = subst (λ (q : Reader). shard_of q ≡ shard) (sym same) pinned.of_shard;
+  sound = subst IsSound (sym same) pinned.sound;
+  follows = subst (λ (q : Reader). FollowsWhere client front q) (sym same) pinned.follows;
+  free = free;
+}
+
+-- what a crew leaves of a pin that was ready
+pub pin_after : (plan : Plan) (shard : ShardId) (a b : Option History) (old new : Reader) (ends : List WorkerEnd) → plan.shard ≡ shard →
+    ReaderReady shard 0 a old → ((plan.collectors ≡ 0) ⊎ (old.asked ≢ None) → new ≡ old) →
+    (0 < plan.collectors → old.asked ≡ None → LeavesPin plan b new ends) →
+    ((plan.collectors ≡ 0) ⊎ (old.asked ≡ None) → FollowsWhere 0 a old → FollowsWhere 0 b new) → IsPinOf shard 0 b new
+pin_after plan shard a b old new ends here ready same left follows = by (some_or_none plan.collectors)
+  where
+    some_or_none : (n : ℕ) → (n ≡ 0) ⊎ (0 < n)
+    some_or_none zero = inl refl
+    some_or_none (suc n) = inr (omega arith)
+
+    by : (plan.collectors ≡ 0) ⊎ (0 < plan.collectors) → IsPinOf shard 0 b new
+    by (inl none) =
+        let is = same (inl none) in
+        record {
+          of_shard = subst (λ (q : Reader). shard_of q ≡ shard) (sym is) ready.shard;
+          sound = subst IsSound (sym is) ready.sound;
+          follows = follows (inr ready.free) ready.follows;
+        }
+    by (inr some) = subst (λ (s : ShardId). IsPinOf s 0 b new) here (left some ready.free).2.1.follows
+
+-- and what a crew asks of one
+pub pin_of : (plan : Plan) (shard : ShardId) (client : ℕ) (front : Option History) (r : Reader) → plan.shard ≡ shard → client ≡ 0 →
+    ReaderReady shard client front r → IsPinOf plan.shard 0 front r
+pin_of plan shard client front r here first ready = record {
+  of_shard = ready.shard ∙ sym here;
+  sound = ready.sound;
+  follows = subst (λ (n : ℕ). FollowsWhere n front r) first ready.follows;
 }

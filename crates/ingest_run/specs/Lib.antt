@@ -1,4 +1,5 @@
 pub mod Looking
+pub mod Idling
 pub mod Bounds
 pub mod Verdicts
 pub mod PlainIngests

@@ -1,5 +1,5 @@
 // The command `ingest`.
-ghost use Rattle.std.specs.Prelude.{◌≡◌, ◌≤◌, ◌+◌, IfSome, Err};
+ghost use Rattle.std.specs.Prelude.{◌≡◌, ◌≤◌, ◌+◌, ℕ, IfSome, Err};
 ghost use Rattle.std.specs.List.{AllByRecursion};
 ghost use Rattle.driving.specs.Goings.{Goes};
 ghost use Rattle.driving.specs.StoreTurns.{EndsInFailure};
@@ -7,6 +7,7 @@ ghost use Rattle.appends_core.specs.Feeds.{IsFeed};
 ghost use Rattle.ingest_text.specs.Feeds.{IsQuery};
 ghost use Rattle.ingest_run.specs.declared.faults.IngestFault.TheVariants.{Outside};
 ghost use Rattle.plain_run.specs.Answering.{ReaderReady, number_of};
+ghost use Rattle.crew.specs.Pinning.{IsPinOf};
 ghost use Rattle.crew.specs.Plans.{workers_of};
 ghost use Rattle.ingest_run.specs.Ends.{Ends, Ingests, Works, texts};
 
@@ -79,14 +80,15 @@ fn finished<S: Store>(
     queries: &[FeedLine],
     moment: u64,
 ) -> IngestEnd<S>
-    requires ready { ReaderReady place.shard place.reader (S.history end.store) end.pin }
+    requires client { place.reader ≡ 0 }
+    requires pin { IsPinOf place.shard 0 (S.history end.store) end.pin }
     requires queries { AllByRecursion IsQuery queries.now }
-    ensures told { Goes place.shard (S.history end.store) (S.history result.store) (Ends place.shard (number_of end.pin) plan.now.appends queries.now plan.now.compactors (texts result.reply (λ text. text.items))) }
+    ensures told { (reader : ℕ) → Goes place.shard (S.history end.store) (S.history result.store) (Ends place.shard reader plan.now.appends queries.now plan.now.compactors (texts result.reply (λ text. text.items))) }
     ensures failed { result.reply ≡ Err (Outside SessionFault.Store) → IfSome (S.history result.store) EndsInFailure }
 {
     let CrewEnd {
         store,
-        mut pin,
+        pin,
         ends,
     } = end;
     let finish = Finish {
@@ -99,7 +101,7 @@ fn finished<S: Store>(
     let mut text = Vec::new(alloc);
     let done = finish.run(
         alloc,
-        &mut pin,
+        pin,
         &mut port,
         plan.appends.as_slice(),
         queries,

@@ -9,6 +9,7 @@ mod extents;
 mod faults;
 mod finishing;
 mod ingests;
+mod leaving;
 mod looks;
 mod sizes;
 

@@ -6,7 +6,7 @@ use Rattle.plain_run.specs.Answering.{TendsTo, number_of}
 use Rattle.ingest_run.specs.Ends.{Reports, SettlesBy}
 use Rattle.ingest_run.proofs.FaultLaws.{tends_fault}
 use Rattle.ingest_run.proofs.FinishLaws.{reported}
-use Rattle.ingest_run.proofs.IdleReaders.{idle_ready}
+use Rattle.ingest_run.proofs.IdleReaders.{idle_ready, some_idle_past}
 use Rattle.ingest_run.proofs.finishing.Finish.report.Goals as goal
 
 pub answer-requires-clause-ready : goal.answer-requires-clause-ready
@@ -16,6 +16,14 @@ answer-requires-clause-ready g c =
     idle_ready shard c.args.self.now.place.reader c.args.reader.now (g.S.Store.history c.args.port.now.store)
     (g.S.Store.history c.merge.new.port.store) (TendsTo shard n (SettlesBy shard c.args.self.now.compactors) c.merge.result)
     (c.merge.ensures.told n) c.requires.ready
+
+pub answer-requires-clause-pin : goal.answer-requires-clause-pin
+answer-requires-clause-pin g c =
+    let shard = c.args.self.now.place.shard in
+    let n = number_of c.args.reader.now in
+    some_idle_past shard c.args.self.now.place.reader c.args.pin (g.S.Store.history c.args.port.now.store)
+    (g.S.Store.history c.merge.new.port.store) (TendsTo shard n (SettlesBy shard c.args.self.now.compactors) c.merge.result)
+    (c.merge.ensures.told n) c.requires.pin
 
 pub returns-in_err-merge-clause-told : goal.returns-in_err-merge-clause-told
 returns-in_err-merge-clause-told g c =
