@@ -9,5 +9,6 @@ pub mod Turns
 pub mod Operators
 pub mod Polling
 pub mod Known
+pub mod Knowing
 pub mod Asking
 pub mod Proposals
