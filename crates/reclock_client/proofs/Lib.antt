@@ -16,6 +16,8 @@ pub mod StartTurns
 pub mod Owning
 pub mod OwnPolls
 pub mod KnownStays
+pub mod Growing
+pub mod Agreeing
 pub mod Proposing
 pub mod MintSums
 pub mod Raising

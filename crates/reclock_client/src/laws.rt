@@ -2,6 +2,7 @@
 ghost use Rattle.machine_core.specs.Machines.{Keeps};
 ghost use Rattle.reclock_client.specs.Looking.{machine};
 ghost use Rattle.reclock_client.specs.Known.{CollectionsAgree, ContentIsKnown, KnownStays, MintFits, MintRaises, MintRaisesSums, StepIsKnown};
+ghost use Rattle.reclock_client.specs.Knowing.{KnowsOn, OperatorsAgree};
 ghost use Rattle.reclock_client.specs.Proposals.{DataAppends, DataCalls, RemapAppends, RemapCalls};
 
 /// After a content of the remap shard of which no row is foreign, the bindings are those of its updates.
@@ -19,7 +20,18 @@ pub fn known_stays()
     ensures { KnownStays }
 {}
 
-/// Two operators who know one remap shard: their collections of equal rows have equal sums at each time that both know.
+/// What an operator knows over a history it knows over the history with more entries, whoever makes them.
+pub fn knowing_goes_on()
+    ensures { KnowsOn }
+{}
+
+/// Two operators of one remap shard: over a lawful history of a collection, the collections of equal rows have equal sums at each time
+/// from both sinces on that both synced frontiers cover.
+pub fn operators_agree()
+    ensures { OperatorsAgree }
+{}
+
+/// The same of one list of updates: their collections of equal rows have equal sums at each time that both know.
 pub fn collections_agree()
     ensures { CollectionsAgree }
 {}
