@@ -18,6 +18,7 @@ pub mod OwnPolls
 pub mod KnownStays
 pub mod Growing
 pub mod Agreeing
+pub mod Telling
 pub mod Proposing
 pub mod MintSums
 pub mod Raising
