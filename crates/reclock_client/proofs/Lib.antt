@@ -19,6 +19,7 @@ pub mod KnownStays
 pub mod Growing
 pub mod Agreeing
 pub mod Telling
+pub mod Learning
 pub mod Proposing
 pub mod MintSums
 pub mod Raising
