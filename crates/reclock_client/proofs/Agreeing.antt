@@ -40,7 +40,7 @@ all_bound front o k idle =
     subst (λ (e : Option Errand). IfNone e (o.course.intake ≡ intakes.Nothing)) idle k.bound in
     ap (λ (i : Intake). with_rows o.course.bindings (left o.course.since i)) none
 
-nothing_covered : (k : Knowledge) (t : ℕ) → IsBlank k → covers k.synced t ≡ true → ⊥
+pub nothing_covered : (k : Knowledge) (t : ℕ) → IsBlank k → covers k.synced t ≡ true → ⊥
 nothing_covered k t blank c =
     let at : covers (Some 0) t ≡ true = subst (λ (g : Option ℕ). covers g t ≡ true) blank.1 c in
     grind (arith, nat_tests)

@@ -20,6 +20,7 @@ pub mod Growing
 pub mod Agreeing
 pub mod Telling
 pub mod Learning
+pub mod Hearing
 pub mod Proposing
 pub mod MintSums
 pub mod Raising

@@ -128,12 +128,12 @@ module _ (shard : ShardId) (start : Stored) (es : List Entry) (list : List Updat
             ∙ ap (λ (g : Option ℕ). slice_of (accepted shard list start (f.newer ++ f.place.before)) from g) (sym ends);
       })
 
-  content_told : (t : ℕ) (rows : List Row) → Snapshots list start shard member t (content rows) (places client calls es) →
+  pub content_told : (t : ℕ) (rows : List Row) → Snapshots list start shard member t (content rows) (places client calls es) →
       ContentTold shard start es list t rows
   content_told t rows h = content_found t rows
       (found shard (ReadsAt list start shard member (λ c. snapshot_answer c t ≡ content rows)) client calls es h)
 
-  step_told : (from to : Option ℕ) (rows : List Update) → Listens list start shard member from (step rows to) (places client calls es) →
+  pub step_told : (from to : Option ℕ) (rows : List Update) → Listens list start shard member from (step rows to) (places client calls es) →
       StepTold shard start es list from to rows
   step_told from to rows h = step_found from to rows
       (found shard (ReadsAt list start shard member (λ c. listen_answer c from ≡ step rows to)) client calls es h)
