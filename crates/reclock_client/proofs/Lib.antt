@@ -21,6 +21,7 @@ pub mod Agreeing
 pub mod Telling
 pub mod Learning
 pub mod Hearing
+pub mod Keeping
 pub mod Proposing
 pub mod MintSums
 pub mod Raising
