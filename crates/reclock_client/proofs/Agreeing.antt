@@ -1,7 +1,9 @@
 -- Operators who know one remap shard have equal collections.
-use Rattle.std.proofs.Common.{◌≡◌, ℕ, ◌<◌, ◌≤◌, Bool, true, false, Option, Some, None, List, [], refl, sym, ap, subst, inl, inr, arith}
+use Rattle.std.proofs.Common.{◌≡◌, ℕ, ◌<◌, ◌≤◌, Bool, true, false, Option, Some, None, List, [], Result, Ok, Err, refl, sym, ap, subst, inl, inr}
+use Rattle.std.proofs.Common.{arith}
 use Rattle.std.proofs.lemmas.Bool.Decides.{nat_tests}
-use Rattle.std.specs.Prelude.{◌⊎◌, IfNone, reverse}
+use Rattle.std.specs.Prelude.{◌⊎◌, IfNone, IfOk, reverse}
+use Rattle.std.specs.declared.alloc.AllocError.{AllocError}
 use Rattle.update_core.specs.declared.updates.Update.{Update}
 use Rattle.update_core.specs.Frontiers.{covers}
 use Rattle.update_core.specs.Limits.{most}
@@ -21,7 +23,7 @@ use Rattle.reclock_client.specs.declared.intakes.Intake.{Intake}
 use Rattle.reclock_client.specs.declared.intakes.Intake.TheVariants as intakes
 use Rattle.reclock_client.specs.declared.operators.Operator.{Operator}
 use Rattle.reclock_client.specs.Known.{IsRight, Knowledge, knowledge, known}
-use Rattle.reclock_client.specs.Knowing.{AreBindings, IsBlank, Knows, KnowsOn, KnowsOver, KnowsWhere, Learned, OperatorsAgree}
+use Rattle.reclock_client.specs.Knowing.{AreBindings, IsBlank, IsReclocked, Knows, KnowsOn, KnowsOver, KnowsWhere, Learned, OperatorsAgree}
 use Rattle.reclock_client.specs.Reading.{left}
 use Rattle.reclock_client.proofs.Growing.{where_entries}
 use Rattle.reclock_client.proofs.KnownStays.{collections_agree}
@@ -66,6 +68,23 @@ bindings_are front o k idle =
     (all_bound front o k idle)
     (bindings_over (knowledge o.course) o.course.listens o.remap start es list (over low)))
     k.knows
+
+-- the collection that it hands out
+pub reclocked_is : (front : Option History) (o : Operator) (rows : List SourceRow) (us : List Update) → us ≡ reclocked rows o.course.bindings 0 →
+    Knows front o → o.course.errand ≡ None → IsReclocked front o.remap o.course.since o.course.synced rows us
+reclocked_is front o rows us is k idle =
+    there_too o.remap front
+    (λ start es list. o.course.since < most → IsBindingsOf (accepted o.remap list start es) o.course.since o.course.synced o.course.bindings)
+    (λ start es list. o.course.since < most → (bs : List (ℕ × List ℕ)) ×
+    IsBindingsOf (accepted o.remap list start es) o.course.since o.course.synced bs × (us ≡ reclocked rows bs 0))
+    (λ start es list are low. (o.course.bindings, are low, is))
+    (bindings_are front o k idle)
+
+pub all_reclocked : (front : Option History) (o : Operator) (rows : List SourceRow) (r : Result (List Update) AllocError) →
+    IfOk r (λ us. us ≡ reclocked rows o.course.bindings 0) → Knows front o → o.course.errand ≡ None →
+    IfOk r (IsReclocked front o.remap o.course.since o.course.synced rows)
+all_reclocked front o rows (Ok us) is k idle = reclocked_is front o rows us is k idle
+all_reclocked front o rows (Err e) is k idle = tt
 
 -- what covers a time is right
 right_at : (k : Knowledge) (b : Bool) (shard : ShardId) (start : Stored) (es : List Entry) (list : List Update) (t : ℕ) →

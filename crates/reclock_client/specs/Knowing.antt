@@ -20,6 +20,7 @@ use Rattle.remap_core.specs.RemapShards.{IsBindingsOf}
 use Rattle.reclock_client.specs.declared.intakes.Intake.TheVariants as intakes
 use Rattle.reclock_client.specs.declared.operators.Operator.{Operator}
 use Rattle.reclock_client.specs.Known.{IsRight, Knowledge, knowledge}
+use Rattle.reclock_client.specs.Operators.{calls_of}
 
 -- nothing is known
 abbrev pub IsBlank : Knowledge → Type 0
@@ -45,10 +46,19 @@ pub record Knows (front : Option History) (o : Operator) : Type 0 where
   pub bound : IfNone o.course.errand (o.course.intake ≡ intakes.Nothing)
   pub knows : KnowsWhere front o.remap (knowledge o.course) o.course.listens
 
+-- its open or last command has not made the most calls that are counted
+abbrev pub Counts : Operator → Type 0
+Counts o = calls_of o < most
+
 -- these bindings are those of the accepted updates of a shard, from a since on, up to a frontier
 abbrev pub AreBindings : Option History → ShardId → ℕ → Option ℕ → List (ℕ × List ℕ) → Type 0
 AreBindings front shard since synced bs =
     WhereLawful shard front (Backwards (λ start es list. since < most → IsBindingsOf (accepted shard list start es) since synced bs))
+
+-- an update list is the rows at the times that such bindings give them
+abbrev pub IsReclocked : Option History → ShardId → ℕ → Option ℕ → List SourceRow → List Update → Type 0
+IsReclocked front shard since synced rows us = WhereLawful shard front (Backwards (λ start es list. since < most →
+    (bs : List (ℕ × List ℕ)) × IsBindingsOf (accepted shard list start es) since synced bs × (us ≡ reclocked rows bs 0)))
 
 -- ---- laws
 
