@@ -24,9 +24,7 @@ use Rattle.read_client.specs.Machining as reads
 use Rattle.try_machine.specs.declared.tryers.Tryer.{Tryer}
 use Rattle.write_client.specs.declared.writers.Writer.{Writer}
 use Rattle.write_client.specs.Machining as writes
-use Rattle.machine_core.proofs.Fronts.{everywhere}
 use Rattle.reclock_client.specs.declared.courses.Course.{Course}
-use Rattle.reclock_client.specs.declared.errands.Errand.{Errand}
 use Rattle.reclock_client.specs.declared.intakes.Intake.TheVariants as intakes
 use Rattle.reclock_client.specs.declared.looks.Look.{Look}
 use Rattle.reclock_client.specs.declared.operators.Operator.{Operator}
@@ -38,11 +36,10 @@ use Rattle.reclock_client.specs.declared.steps.Step.{Step}
 use Rattle.reclock_client.specs.declared.steps.Step.TheVariants as steps
 use Rattle.reclock_client.specs.Asking.{InTurn}
 use Rattle.reclock_client.specs.Commands.{after_data_writer, after_poll, after_reader, after_remap_writer, published_from}
-use Rattle.reclock_client.specs.Beginning as beginnings
 use Rattle.reclock_client.specs.Known.{Knowledge, knowledge}
 use Rattle.reclock_client.specs.Knowing.{Counts, Knows, KnowsOver, KnowsWhere}
 use Rattle.reclock_client.specs.Looking as looks
-use Rattle.reclock_client.specs.Operators.{IsOpen, IsSound, open_calls, part_of, opened}
+use Rattle.reclock_client.specs.Operators.{IsOpen, IsSound, open_calls, part_of}
 use Rattle.reclock_client.specs.Polling.{DataBegun, DataStarts, Halts, Inner, LookStarts, ReadStarts, RemapBegun, RemapStarts, Starts, bound, counted}
 use Rattle.reclock_client.proofs.Growing.{where_passed}
 use Rattle.reclock_client.proofs.Hearing.{asked_here, learns, tells}
@@ -253,16 +250,3 @@ module _ (front : Option History) (o : Operator) (busy : IsSome o.course.errand)
         knows = subst (λ (d : ShardId). KnowsWhere front d (knowledge ready.course) ready.course.listens) (sym at)
             (subst (λ (x : Course). KnowsWhere front o.remap (knowledge x) x.listens) (sym course) k2.knows);
       }
-
--- ---- beginnings
-
-pub opened_knows : (remap_at data_at : ShardId) (moment lease : ℕ) (front : Option History) → Knows front (opened remap_at data_at moment lease)
-opened_knows remap_at data_at moment lease front = record {
-  bound = tt;
-  knows = everywhere remap_at front (KnowsOver remap_at (record { since = 0; bindings = []; synced = Some 0 }) false)
-      (λ start es list low. inl ((refl, refl), refl));
-}
-
-pub begun_knows : (front : Option History) (o new : Operator) (errand : Errand) (step : Step) → new ≡ beginnings.begun o errand step →
-    Knows front o → Knows front new
-begun_knows front o new errand step is k = subst (Knows front) (sym is) (record { bound = tt; knows = k.knows })
