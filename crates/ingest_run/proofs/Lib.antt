@@ -1,0 +1,11 @@
+mod LookRule
+mod LookLaws
+mod FaultLaws
+mod BoundLaws
+mod BeginLaws
+mod CrewGoes
+mod AskLaws
+mod FinishLaws
+mod WorkLaws
+mod IngestLaws
+mod IdleReaders
