@@ -134,13 +134,13 @@ shard_none value none (command.Steps s) h = apart (codes "ingest") (codes "steps
 shard_none value none (command.Ingest s w m g ks) h = let bad : None ≡ Some s = none ∙ sym h.1 in cc
 shard_none value none (command.Reclock a b n) h = apart (codes "ingest") (codes "reclock") h.0 refl
 
-pub unsized : (value : Text → Option Text) → ((size : Size) → HasSize value size → ⊥) → (c : CommandWords)
+pub without_size : (value : Text → Option Text) → ((size : Size) → HasSize value size → ⊥) → (c : CommandWords)
     → Means (codes "ingest") value c → ⊥
-unsized value none (command.Run s) h = apart (codes "ingest") (codes "run") h.0 refl
-unsized value none (command.Steps s) h = apart (codes "ingest") (codes "steps") h.0 refl
-unsized value none (command.Ingest s w m g ks) h = none (record { writers = w; compactors = m; collectors = g })
+without_size value none (command.Run s) h = apart (codes "ingest") (codes "run") h.0 refl
+without_size value none (command.Steps s) h = apart (codes "ingest") (codes "steps") h.0 refl
+without_size value none (command.Ingest s w m g ks) h = none (record { writers = w; compactors = m; collectors = g })
     (record { writers = h.2; compactors = h.3; collectors = h.4 })
-unsized value none (command.Reclock a b n) h = apart (codes "ingest") (codes "reclock") h.0 refl
+without_size value none (command.Reclock a b n) h = apart (codes "ingest") (codes "reclock") h.0 refl
 
 pub same_count : (low high : ℕ) (value : Option Text) (a b : ℕ) → high < 2 ^ 64 → IsCount low high value a → IsCount low high value b
     → a ≡ b

@@ -86,7 +86,7 @@ fn crew_of(
 }
 
 /// The command `ingest` with these options.
-#[tactic(auto, using(crate::proofs::Readers::unsized))]
+#[tactic(auto, using(crate::proofs::Readers::without_size))]
 pub(crate) fn ingest_of(
     alloc: Global,
     given: &ArgMatches<'_>,

@@ -74,8 +74,7 @@ fn reclock_of(given: &ArgMatches<'_>) -> Option<CommandWords>
 }
 
 // The command with this word and these options.
-#[tactic(auto, using(crate::proofs::Readers::unnamed, crate::proofs::Readers::as_named, crate::proofs::Readers::none_named,
-    crate::proofs::Readers::as_named_ok, crate::proofs::Readers::none_named_ok))]
+#[tactic(auto, using(crate::proofs::Readers::unnamed, crate::proofs::Readers::as_named, crate::proofs::Readers::none_named, crate::proofs::Readers::as_named_ok, crate::proofs::Readers::none_named_ok))]
 fn command_of(
     alloc: Global,
     name: &str,
@@ -100,10 +99,7 @@ fn command_of(
 }
 
 // The command that the matches hold.
-fn command_in(
-    alloc: Global,
-    matches: &ArgMatches<'_>,
-) -> Result<Option<CommandWords>, AllocError>
+fn command_in(alloc: Global, matches: &ArgMatches<'_>) -> Result<Option<CommandWords>, AllocError>
     ensures some { IfOk result (λ found. IfSome found (Reads matches.now)) }
     ensures none { IfOk result (λ found. IfNone found ((c : CommandWords) → Reads matches.now c → ⊥)) }
 {
