@@ -32,7 +32,7 @@ struct Replied<S> {
 }
 
 // The replies to the feed that a text spells, where it spells one.
-fn replied<S: Store + Send, G: Gate + Sync, R: Threads + Wait + Sync>(
+fn answer_text<S: Store + Send, G: Gate + Sync, R: Threads + Wait + Sync>(
     rt: &R,
     alloc: Global,
     text: &[u8],
@@ -109,7 +109,7 @@ pub fn run_ingest<So: Source, Si: Sink, S: Store + Send, G: Gate + Sync, R: Thre
 {
     match read_up_to(alloc, source, MAX_BYTES + 1) {
         Ok(text) => {
-            let Replied { store, reply } = replied(rt, alloc, &text, store, shard, size, moment, gate);
+            let Replied { store, reply } = answer_text(rt, alloc, &text, store, shard, size, moment, gate);
             Ingested {
                 store,
                 ending: written(out, reply),
