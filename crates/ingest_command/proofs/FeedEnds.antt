@@ -1,17 +1,12 @@
 -- How the command ends by what was written of its replies.
-use Rattle.std.proofs.Common.{◌≡◌, ℕ, ◌+◌, Option, Some, None, Result, Ok, Err, List, sym, subst, ⊎_elim, ap}
-use Rattle.causes.specs.Causes.{Rose}
-use Rattle.update_core.specs.declared.updates.Update.{Update}
+use Rattle.std.proofs.Common.{◌≡◌, ℕ, ◌+◌, Option, Result, Ok, Err, List, sym, subst, ⊎_elim}
 use Rattle.store_core.specs.declared.shards.ShardId.{ShardId}
-use Rattle.store_core.specs.declared.entries.Entry.{Entry}
-use Rattle.store_core.specs.Stores.{Stored}
 use Rattle.store_core.specs.Histories.{History}
 use Rattle.feed_text.specs.declared.limits.TheConstants.{MAX_BYTES}
 use Rattle.feed_text.specs.Streams.{Gains, TakesAll}
 use Rattle.driving.specs.Goings.{Goes}
 use Rattle.driving.proofs.GoingLaws.{going_so}
 use Rattle.ingest_text.specs.declared.feeds.IngestFeed.{IngestFeed}
-use Rattle.plain_run.specs.declared.endings.Ending.{Ending}
 use Rattle.plain_run.specs.declared.endings.Ending.TheVariants as endings
 use Rattle.ingest_run.specs.declared.faults.IngestFault.TheVariants as faults
 use Rattle.ingest_run.specs.Ends.{Ingests}

@@ -13,7 +13,6 @@ use Rattle.ingest_text.specs.declared.feeds.IngestFeed.{IngestFeed}
 use Rattle.ingest_text.specs.Feeds.{IsFirstFault, Spells}
 use Rattle.driving.specs.Goings.{Goes}
 use Rattle.driving.specs.StoreTurns.{EndsInFailure}
-use Rattle.plain_run.specs.declared.endings.Ending.{Ending}
 use Rattle.plain_run.specs.declared.endings.Ending.TheVariants as endings
 use Rattle.plain_run.specs.Drives.{ScannedFull, ScannedSpent}
 use Rattle.plain_run.specs.Endings.{Spares as SparesRun}

@@ -49,7 +49,9 @@ fn answer_text<S: Store + Send, G: Gate + Sync, R: Threads + Wait + Sync>(
 {
     match parse_ingest(alloc, text) {
         Ok(feed) => {
-            let IngestEnd { store, reply } = ingest(rt, alloc, store, shard, feed, size, moment, gate);
+            let IngestEnd { store, reply } = ingest(
+                rt, alloc, store, shard, feed, size, moment, gate,
+            );
             match reply {
                 Ok(text) => Replied {
                     store,
@@ -109,7 +111,9 @@ pub fn run_ingest<So: Source, Si: Sink, S: Store + Send, G: Gate + Sync, R: Thre
 {
     match read_up_to(alloc, source, MAX_BYTES + 1) {
         Ok(text) => {
-            let Replied { store, reply } = answer_text(rt, alloc, &text, store, shard, size, moment, gate);
+            let Replied { store, reply } = answer_text(
+                rt, alloc, &text, store, shard, size, moment, gate,
+            );
             Ingested {
                 store,
                 ending: written(out, reply),
