@@ -112,14 +112,14 @@ module _ (client : ℕ) (front now : Option History) (w : CollectorWorker) (read
       Polled collecting client front now w.collector new poll →
       Turned as_collector w.shard client front now misses misses_now (turns.End ends.Memory)
   counted_turned new poll misses misses_now k = roles.counted_turned collecting as_collector w.shard client front now w.collector
-      ready.of_shard ready.follows carries new poll misses misses_now k tt
+      ready.of_shard (Follows client w.collector) ready.follows carries new poll misses misses_now k tt
 
   pub polled_turned : (new : Collector) (poll : Poll CollectAnswer) (v : CollectorWorker) (turn : WorkerTurn) (misses misses_now : ℕ) →
       Polled collecting client front now w.collector new poll → (poll ≡ polls.Busy → misses < misses_now) →
       (IsMarked turn → (poll ≡ polls.Fault) × IsFaulted turn) → v.shard ≡ w.shard → Comes client now v turn →
       Turned as_collector w.shard client front now misses misses_now turn
   polled_turned new poll v turn misses misses_now k busy fault same comes =
-      roles.polled_turned collecting as_collector w.shard client front now w.collector ready.of_shard ready.follows carries
+      roles.polled_turned collecting as_collector w.shard client front now w.collector ready.of_shard (Follows client w.collector) ready.follows carries
       new poll turn misses misses_now k busy fault (comes_means w.shard client now v turn same comes)
 
   -- what it comes to after a poll that could still be counted

@@ -2,6 +2,11 @@ mod Among
 mod Beginnings
 mod CollectTurning
 mod Endings
+mod FollowBeginnings
+mod FollowCarries
+mod FollowFresh
+mod FollowHears
+mod FollowTurning
 mod Looping
 mod MeansGrown
 mod MergeBeginnings

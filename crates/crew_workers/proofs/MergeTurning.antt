@@ -121,7 +121,7 @@ module _ (client : ℕ) (front now : Option History) (w : CompactorWorker) (read
   keeps_role : (new : Compactor) (poll : Poll MergeAnswer) → Polled machine client front now w.compactor new poll →
       KeepsOn (IsWorkersEntry as_compactor w.shard) w.shard client front now
   keeps_role new poll k =
-      roles.polled_keeps machine as_compactor w.shard client front now w.compactor ready.of_shard ready.follows carries new poll k
+      roles.polled_keeps machine as_compactor w.shard client front now w.compactor ready.of_shard (FollowsAll client w.compactor) ready.follows carries new poll k
 
   -- it ends for want of memory
   pub unpolled_turned : (new : Compactor) (misses misses_now : ℕ) → Unpolled machine client front now w.compactor new →
@@ -134,14 +134,14 @@ module _ (client : ℕ) (front now : Option History) (w : CompactorWorker) (read
       Polled machine client front now w.compactor new poll →
       Turned as_compactor w.shard client front now misses misses_now (turns.End ends.Memory)
   counted_turned new poll misses misses_now k = roles.counted_turned machine as_compactor w.shard client front now w.compactor
-      ready.of_shard ready.follows carries new poll misses misses_now k tt
+      ready.of_shard (FollowsAll client w.compactor) ready.follows carries new poll misses misses_now k tt
 
   pub polled_turned : (new : Compactor) (poll : Poll MergeAnswer) (v : CompactorWorker) (turn : WorkerTurn) (misses misses_now : ℕ) →
       Polled machine client front now w.compactor new poll → (poll ≡ polls.Busy → misses < misses_now) →
       (IsMarked turn → (poll ≡ polls.Fault) × IsFaulted turn) → v.shard ≡ w.shard → Comes client now v turn →
       Turned as_compactor w.shard client front now misses misses_now turn
   polled_turned new poll v turn misses misses_now k busy fault same comes =
-      roles.polled_turned machine as_compactor w.shard client front now w.compactor ready.of_shard ready.follows carries
+      roles.polled_turned machine as_compactor w.shard client front now w.compactor ready.of_shard (FollowsAll client w.compactor) ready.follows carries
       new poll turn misses misses_now k busy fault (comes_means w.shard client now v turn same comes)
 
   -- what it comes to after a poll that could still be counted

@@ -209,7 +209,7 @@ module _ (client : ℕ) (front now : Option History) (w : PinWorker) (ready : Is
       (IsMarked turn → (poll ≡ polls.Fault) × IsFaulted turn) → TurnMeans as_pin w.collects.shard client now turn →
       Turned as_pin w.collects.shard client front now misses misses_now turn
   polled_turned new poll turn misses misses_now k busy fault means =
-      roles.polled_turned machine as_pin w.collects.shard client front now w.pin ready.pin.of_shard ready.pin.follows carries
+      roles.polled_turned machine as_pin w.collects.shard client front now w.pin ready.pin.of_shard (Follows client w.pin) ready.pin.follows carries
       new poll turn misses misses_now k busy fault means
 
   -- the pin afterwards

@@ -20,7 +20,7 @@ use Rattle.load_core.specs.declared.polls.Poll.{Poll}
 use Rattle.load_core.specs.declared.polls.Poll.TheVariants as polls
 use Rattle.load_core.specs.Fronts.{Backwards, WhereLawful}
 use Rattle.machine_core.specs.Machines.{IsReading, Words, shard_of}
-use Rattle.machine_core.specs.Polling.{Calls, FollowsWhere, Polled, Unpolled, Wanted}
+use Rattle.machine_core.specs.Polling.{Calls, Polled, Unpolled, Wanted}
 use Rattle.crew_core.specs.KeepingOn.{KeepsOn}
 use Rattle.crew_core.specs.Working.{CarriesWorkers, IsWorkersEntry, Role}
 use Rattle.crew_core.proofs.Keeping.{on_gains, on_others, on_same}
@@ -31,7 +31,7 @@ use Rattle.crew_workers.specs.Turns.{IsFaulted, IsMarked, TurnMeans, Turned}
 use Rattle.crew_workers.proofs.TurnEnds.{fault_failed, goes_on_for, polled_few, unpolled_few}
 
 -- the entries of others are none of the client's own
-own_same : (client : ℕ) (h : History) (others : List Entry) → OfOthers client others →
+pub own_same : (client : ℕ) (h : History) (others : List Entry) → OfOthers client others →
     mine_back h.start (reverse (h.trail ++ others)) client ≡ mine_back h.start (reverse h.trail) client
 own_same client h others of =
     ap (λ (es : List Entry). mine_back h.start es client) (turned h others)
@@ -63,17 +63,19 @@ reading_carries role shard mine (calls.Set key bytes) r = absurd r
 reading_carries role shard mine (calls.Delete key) r = absurd r
 
 module _ {M A : Type 0} (W : Words M A) (role : Role) (shard : ShardId) (client : ℕ) (front now : Option History) (old : M)
-    (of_shard : shard_of W old ≡ shard) (follows : FollowsWhere W client front old)
+    (of_shard : shard_of W old ≡ shard) (Known : Stored → List Entry → Type 0)
+    (known : WhereLawful (shard_of W old) front (Backwards (λ start es list. Known start es)))
     (carry : (ready : M) → W.Prepares old ready → (call : Call) → W.call_of ready ≡ Some call → (reply : Reply) (poll : Poll A) →
-    W.Effect (W.kept old) call reply poll → (start : Stored) (es : List Entry) → W.Follows client old start es →
+    W.Effect (W.kept old) call reply poll → (start : Stored) (es : List Entry) → Known start es →
     CarriesWorkers role shard (mine_back start es client) call) where
   by_calls : (new : M) (poll : Poll A) → Calls W client front now old new poll → KeepsOn (IsWorkersEntry role shard) shard client front now
   by_calls new poll k =
       on_gains (IsWorkersEntry role shard) shard client front now k.call k.reply k.gains (λ h is others o list of st l.
       let lawful : Lawful h = prefix_lawful h others l in
-      let f : W.Follows client old h.start (reverse h.trail) =
-      subst (λ (d : ShardId). WhereLawful d (Some h) (Backwards (λ start es list. W.Follows client old start es))) of_shard
-      (subst (λ (g : Option History). FollowsWhere W client g old) is follows) list st lawful in
+      let f : Known h.start (reverse h.trail) =
+      subst (λ (d : ShardId). WhereLawful d (Some h) (Backwards (λ start es list. Known start es))) of_shard
+      (subst (λ (g : Option History). WhereLawful (shard_of W old) g (Backwards (λ start es list. Known start es))) is known)
+      list st lawful in
       let may : Allows (mine_back h.start (reverse h.trail) client) k.call =
       subst (λ (d : ShardId). WhereLawful d (Some h) (Backwards (λ start es us. Allows (mine_back start es client) k.call))) of_shard
       (subst (λ (g : Option History). WhereLawful (shard_of W old) g

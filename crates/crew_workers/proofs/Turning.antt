@@ -219,8 +219,7 @@ module _ (client : ℕ) (front now : Option History) (w : WriterWorker) (feed : 
 
   pub worker_keeps : (new : Writer) (poll : Poll WriteAnswer) → Polled machine client front now w.writer new poll →
       KeepsOn (IsWorkersEntry (as_writer w.appends.now) w.shard) w.shard client front now
-  worker_keeps new poll k = roles.polled_keeps machine (as_writer w.appends.now) w.shard client front now w.writer ready.of_shard
-      ready.follows carries new poll k
+  worker_keeps new poll k = roles.polled_keeps machine (as_writer w.appends.now) w.shard client front now w.writer ready.of_shard (machine.Follows client w.writer) ready.follows carries new poll k
 
   -- it ends for want of memory
   pub unpolled_turned : (new : Writer) → Unpolled machine client front now w.writer new →
@@ -231,15 +230,14 @@ module _ (client : ℕ) (front now : Option History) (w : WriterWorker) (feed : 
   -- or since it has made as many calls as can be counted
   pub counted_turned : (new : Writer) (poll : Poll WriteAnswer) → Polled machine client front now w.writer new poll →
       Turned (as_writer w.appends.now) w.shard client front now misses misses_now (turns.End ends.Memory)
-  counted_turned new poll k = roles.counted_turned machine (as_writer w.appends.now) w.shard client front now w.writer ready.of_shard
-      ready.follows carries new poll misses misses_now k tt
+  counted_turned new poll k = roles.counted_turned machine (as_writer w.appends.now) w.shard client front now w.writer ready.of_shard (machine.Follows client w.writer) ready.follows carries new poll misses misses_now k tt
 
   pub polled_turned : (new : Writer) (poll : Poll WriteAnswer) (v : WriterWorker) (turn : WorkerTurn) →
       Polled machine client front now w.writer new poll → (poll ≡ polls.Busy → misses < misses_now) →
       (IsMarked turn → (poll ≡ polls.Fault) × IsFaulted turn) → v.appends.now ≡ w.appends.now → v.shard ≡ w.shard →
       Comes client now v turn → Turned (as_writer w.appends.now) w.shard client front now misses misses_now turn
   polled_turned new poll v turn k busy fault same_appends same_shard comes =
-      roles.polled_turned machine (as_writer w.appends.now) w.shard client front now w.writer ready.of_shard ready.follows carries
+      roles.polled_turned machine (as_writer w.appends.now) w.shard client front now w.writer ready.of_shard (machine.Follows client w.writer) ready.follows carries
       new poll turn misses misses_now k busy fault
       (comes_means w.appends.now w.shard client now v turn same_appends same_shard comes)
 

@@ -2,8 +2,10 @@
 //! what they promise.
 #![tactic(auto)]
 
+mod befores;
 mod collecting;
 mod ends;
+mod following;
 mod gates;
 mod merging;
 mod pinning;
@@ -14,9 +16,11 @@ mod workers;
 mod working;
 mod writing;
 
+pub use befores::Before;
 pub use collecting::CollectorWorker;
 pub use crew_core::Job;
 pub use ends::{WorkerEnd, WorkerTurn};
+pub use following::{Follow, FollowWorker};
 pub use gates::{Gate, OpenGate};
 pub use merging::CompactorWorker;
 pub use pinning::PinWorker;
