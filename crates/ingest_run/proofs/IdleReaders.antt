@@ -1,6 +1,6 @@
 -- A reader with no open command follows past all that comes to a history. Entries go newest first.
 use Rattle.std.proofs.Common.{◌≡◌, ◌≢◌, ℕ, zero, suc, Option, Some, None, true, false, List, [], ◌∷◌, ◌++◌, inl, inr, refl, sym, ap, subst, ◌∙◌, arith}
-use Rattle.std.specs.Prelude.{◌==◌, ◌<◌, ◌⊎◌, IfSome, reverse}
+use Rattle.std.specs.Prelude.{◌==◌, ◌<◌, ◌⊎◌, IfSome, IsSome, reverse}
 use Rattle.std.proofs.lemmas.Bool.Decides.{nat_tests}
 use Rattle.store_core.specs.declared.shards.ShardId.{ShardId}
 use Rattle.store_core.specs.declared.entries.Entry.{Entry}
@@ -14,6 +14,9 @@ use Rattle.state_core.proofs.ListLemmas.{bool_cases}
 use Rattle.read_client.specs.declared.readers.Reader.{Reader}
 use Rattle.read_client.specs.Following.{Follows, FollowsWhere}
 use Rattle.read_client.proofs.Machining.{keeps, not_open}
+use Rattle.state_core.specs.declared.transitions.Transition.TheVariants.{Leave}
+use Rattle.history_core.specs.declared.asked.Asked.TheVariants as asks
+use Rattle.read_client.specs.Beginning.{Changing}
 use Rattle.read_client.specs.Reading.{IsSound, shard_of}
 use Rattle.crew.specs.declared.ends.WorkerEnd.{WorkerEnd}
 use Rattle.crew.specs.declared.plans.Plan.{Plan}
@@ -120,4 +123,20 @@ pin_of plan shard client front r here first ready = record {
   of_shard = ready.shard ∙ sym here;
   sound = ready.sound;
   follows = subst (λ (n : ℕ). FollowsWhere n front r) first ready.follows;
+}
+
+-- ---- a reader that begins to leave
+
+pub closing_shard : (old new : Reader) → Changing old asks.CloseReader (λ m. Leave m) new → shard_of new ≡ shard_of old
+closing_shard old new (n, has, is) = ap shard_of is
+
+-- it had joined
+pub joined_ready : (shard : ShardId) (client : ℕ) (front : Option History) (old new : Reader) → IsIdle shard client front old →
+    Changing old asks.CloseReader (λ m. Leave m) new → ReaderReady shard client front old
+joined_ready shard client front old new idle (n, has, is) = record {
+  shard = idle.shard;
+  sound = idle.sound;
+  follows = idle.follows;
+  free = idle.free;
+  member = subst (λ (m : Option ℕ). IsSome m) (sym has) refl;
 }

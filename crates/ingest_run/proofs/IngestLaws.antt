@@ -173,15 +173,3 @@ ends_in_text shard a b reader compactors appends queries text now none went =
     went (λ list start es fs bt f view v.
     let (at_end, is, rests) = f view v in
     (at_end, is ∙ ap (λ (t : List ℕ). t ++ plain_run view queries) none, rests))
-
--- ---- what is the same
-
--- work by what is the same
-pub works_same : (s t : ShardId) → s ≡ t → (xs ys : List FeedAppend) → xs ≡ ys → (qs rs : List FeedLine) → qs ≡ rs → (m n : ℕ) → m ≡ n →
-    (a b : Option History) (reader : ℕ) (reply : Result (List ℕ) IngestFault) → Goes s a b (Works s reader xs qs m reply) →
-    Goes t a b (Works t reader ys rs n reply)
-works_same s t shard xs ys appends qs rs queries m n compactors a b reader reply went =
-    subst (λ (u : ShardId). Goes u a b (Works u reader ys rs n reply)) shard
-    (subst (λ (zs : List FeedAppend). Goes s a b (Works s reader zs rs n reply)) appends
-    (subst (λ (zs : List FeedLine). Goes s a b (Works s reader xs zs n reply)) queries
-    (subst (λ (k : ℕ). Goes s a b (Works s reader xs qs k reply)) compactors went)))

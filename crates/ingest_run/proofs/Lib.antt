@@ -10,4 +10,3 @@ mod FinishLaws
 mod WorkLaws
 mod IngestLaws
 mod IdleReaders
-mod LeaveLaws
