@@ -235,7 +235,7 @@ module _ (shard : ShardId) where
       more_going shard a b d (Resumes reader appends other) (Reports shard other queries compactors text now (Ok tt))
       (Finishes shard reader appends queries compactors text now (Ok tt)) x y
       (λ list start es mid fs b1 b2 f g view v.
-      let (at_end, next, same, at) = f view v in
+      let (at_end, (next, same, at)) = f view v in
       let (is, rests) = g next at in (
         at_end,
         is ∙ ap (λ (t : List ℕ). text ++ t) (same_run next view queries all same),
@@ -252,7 +252,7 @@ module _ (shard : ShardId) where
       Goes shard a d (ShortAt shard reader appends (faults.Outside fault))
   finished_not a b d reader other compactors appends queries text now fault x y =
       fault_over shard a b d reader other (Resumes reader appends other) fault
-      (λ list start es mid b1 f view v. let (at_end, next, same, at) = f view v in (next, at)) x y
+      (λ list start es mid b1 f view v. let (at_end, (next, same, at)) = f view v in (next, at)) x y
 
   -- no reader has joined
   pub finished_unjoined : (a b d : Option History) (reader : ℕ) (appends : List FeedAppend) (fault : SessionFault) →

@@ -114,7 +114,7 @@ pin_after plan shard a b old new ends here ready same left follows = by (some_or
           sound = subst IsSound (sym is) ready.sound;
           follows = follows (inr ready.free) ready.follows;
         }
-    by (inr some) = subst (λ (s : ShardId). IsPinOf s 0 b new) here (left some ready.free).2.1.follows
+    by (inr some) = subst (λ (s : ShardId). IsPinOf s 0 b new) here (left some ready.free).2.follows
 
 -- and what a crew asks of one
 pub pin_of : (plan : Plan) (shard : ShardId) (client : ℕ) (front : Option History) (r : Reader) → plan.shard ≡ shard → client ≡ 0 →

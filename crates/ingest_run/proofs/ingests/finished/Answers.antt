@@ -19,4 +19,13 @@ returns-in-Ok-clause-told g c = λ reader.
     (c.in-Ok.ensures.told reader))
 
 pub returns-clause-told : goal.returns-clause-told
-returns-clause-told g c = ?
+returns-clause-told g c = λ reader.
+    let shard = c.args.place.shard in
+    let a = g.S.Store.history c.args.end.store in
+    let d = g.S.Store.history c.run-done.new.port.store in
+    let m = c.args.plan.now.compactors in
+    let qs = c.args.queries.now in
+    let t = c.new-text.result.items in
+    let u = c.run-done.new.text.items in
+    subst (λ (appends : List FeedAppend). Goes shard a d (Finishes shard reader appends qs m t u (Err c.in-Err.fault))) c.as_slice.ensures
+    (c.in-Err.ensures.told reader)

@@ -1,8 +1,12 @@
+use Rattle.std.proofs.Common.{◌∙◌}
 use Rattle.std.proofs.lemmas.Result.{err_from_is_err_and}
+use Rattle.state_core.specs.declared.transitions.Transition.TheVariants.{Leave}
+use Rattle.history_core.specs.declared.asked.Asked.TheVariants as asks
 use Rattle.read_client.proofs.Machining.{ending, keeps}
 use Rattle.read_client.specs.Machining.{kept, machine}
 use Rattle.plain_run.proofs.DriveLaws.{drive_answers, drive_fails}
-use Rattle.ingest_run.proofs.LeaveLaws.{leaves, leaves_shard}
+use Rattle.plain_run.proofs.ReadLaws.{leaves_reader}
+use Rattle.plain_run.proofs.ReplyLaws.{asked_told, change_begun}
 use Rattle.ingest_run.proofs.IdleReaders.{closing_shard, joined_ready}
 use Rattle.ingest_run.proofs.leaving.let_go.Goals as goal
 
