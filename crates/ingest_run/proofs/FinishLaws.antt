@@ -43,13 +43,13 @@ IsOfCrew faults.Spent = ⊤
 IsOfCrew faults.MembersFull = ⊤
 IsOfCrew _ = ⊥
 
-abbrev short : IngestFault → Result Unit IngestFault
+abbrev pub short : IngestFault → Result Unit IngestFault
 short e = Err e
 
 abbrev whole : Result Unit IngestFault
 whole = Ok tt
 
-err_is : (e f : IngestFault) → short e ≡ short f → e ≡ f
+pub err_is : (e f : IngestFault) → short e ≡ short f → e ≡ f
 err_is e f h = cc
 
 never : (fault : IngestFault) → whole ≡ short fault → ⊥
@@ -70,6 +70,11 @@ of_verdict ends fault is = elim (bool_cases (any_end is_memory_end ends)) [
     ]
   ]
 ]
+
+-- and never that of a command outside of the crew
+pub verdict_inside : (ends : List WorkerEnd) (fault : IngestFault) (f : SessionFault) → crew_verdict ends ≡ Err fault →
+    fault ≡ faults.Outside f → ⊥
+verdict_inside ends fault f is same = subst IsOfCrew same (of_verdict ends fault is)
 
 module _ (shard : ShardId) where
   -- ---- merges and collections

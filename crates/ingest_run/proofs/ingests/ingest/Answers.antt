@@ -35,5 +35,5 @@ returns-in-Err-clause-told g c =
     let a = g.S.Store.history c.args.store in
     let b = g.S.Store.history c.begin-begun.new.port.store in
     let fault = c.in-Err.fault in
-    ingested_not c.args.shard a b c.args.feed c.args.size.compactors fault
+    ingested_not c.args.shard a b b c.args.feed c.args.size.compactors fault
     (subst (λ (s : ShardId). Goes s a b (Begins s c.args.feed (Err fault))) c.place_of-place.ensures.shard c.in-Err.ensures.told)

@@ -10,7 +10,7 @@ use Rattle.ingest_run.proofs.WorkLaws.{works, works_not}
 use Rattle.ingest_run.proofs.ingests.worked.Goals as goal
 
 pub run_crew-requires-clause-pin : goal.run_crew-requires-clause-pin
-run_crew-requires-clause-pin g c = λ some.
+run_crew-requires-clause-pin g c = λ lives bounds some.
     pin_of c.args.plan.now c.args.place.shard c.args.place.reader (g.S.Store.history c.args.store) c.args.reader c.requires.here c.requires.client
     c.requires.ready
 

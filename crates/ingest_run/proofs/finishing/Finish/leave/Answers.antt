@@ -8,8 +8,8 @@ use Rattle.plain_run.proofs.ReplyLaws.{closes}
 use Rattle.ingest_run.proofs.IdleReaders.{some_idle_past}
 use Rattle.ingest_run.proofs.finishing.Finish.leave.Goals as goal
 
-pub let_some_go-requires-clause-idle : goal.let_some_go-requires-clause-idle
-let_some_go-requires-clause-idle g c =
+pub let_some_go-requires : goal.let_some_go-requires
+let_some_go-requires g c =
     some_idle_past c.args.self.now.place.shard c.args.self.now.place.reader c.args.pin (g.S.Store.history c.args.port.now.store)
     (g.S.Store.history c.close_reader.new.port.store) (Closed c.args.self.now.place.shard c.close_reader.result) c.close_reader.ensures.told
     c.requires.pin

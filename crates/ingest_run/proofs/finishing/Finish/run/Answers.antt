@@ -4,7 +4,9 @@ use Rattle.driving.specs.Goings.{Goes}
 use Rattle.plain_run.specs.Answering.{OpensReader, number_of}
 use Rattle.ingest_run.specs.declared.faults.IngestFault.{IngestFault}
 use Rattle.ingest_run.specs.Ends.{Finishes, SeesEnd}
-use Rattle.ingest_run.proofs.FinishLaws.{finished_all, finished_not, finished_unjoined, resumed, verdict_ends}
+use Rattle.ingest_run.specs.declared.faults.IngestFault.TheVariants as faults
+use Rattle.plain_run.specs.declared.session_faults.SessionFault.TheVariants as outside
+use Rattle.ingest_run.proofs.FinishLaws.{err_is, finished_all, finished_not, finished_unjoined, resumed, verdict_ends, verdict_inside}
 use Rattle.ingest_run.proofs.IdleReaders.{kept_idle, some_idle_past}
 use Rattle.ingest_run.proofs.finishing.Finish.run.Goals as goal
 
@@ -30,6 +32,12 @@ returns-in_err-crew_verdict-clause-told g c = λ reader.
     let p = err_from_is_err_and c.from_residual.result c.from_residual.ensures.1 in
     rw p.1 (subst (λ (e : IngestFault). Goes shard a a (Finishes shard reader c.args.appends.now c.args.queries.now m t t (Err e))) (sym p.2)
     (verdict_ends shard a reader c.args.appends.now c.args.ends.now fault (sym c.crew_verdict.ensures ∙ c.in_err-crew_verdict.was)))
+
+pub returns-in_err-crew_verdict-clause-failed : goal.returns-in_err-crew_verdict-clause-failed
+returns-in_err-crew_verdict-clause-failed g c = λ is.
+    let p = err_from_is_err_and c.from_residual.result c.from_residual.ensures.1 in
+    absurd (verdict_inside c.args.ends.now c.in_err-crew_verdict.field-0.0 outside.Store
+    (sym c.crew_verdict.ensures ∙ c.in_err-crew_verdict.was) (sym p.2 ∙ err_is p.0 (faults.Outside outside.Store) (sym p.1 ∙ is)))
 
 pub returns-in_err-see_end-clause-told : goal.returns-in_err-see_end-clause-told
 returns-in_err-see_end-clause-told g c = λ reader.
