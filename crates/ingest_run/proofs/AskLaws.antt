@@ -1,6 +1,6 @@
 -- Questions that are asked in turn. Entries go newest first.
-use Rattle.std.proofs.Common.{◌≡◌, ℕ, suc, ◌+◌, ◌<◌, Option, Result, Ok, Err, List, [], ◌∷◌, ◌++◌, length, slice_index_or, drop, refl, sym, ap, subst, ◌∙◌}
-use Rattle.std.proofs.Common.{append_assoc, append-nil, arith}
+use Rattle.std.proofs.Common.{◌≡◌, ℕ, ◌+◌, ◌<◌, Option, Ok, Err, List, [], ◌∷◌, ◌++◌, length, slice_index_or, drop, refl, sym, ap, ◌∙◌}
+use Rattle.std.proofs.Common.{append_assoc, append-nil}
 use Rattle.std.specs.List.{AllByRecursion, flat_map}
 use Rattle.std.proofs.lemmas.List.{drop_more}
 use Rattle.std.proofs.lemmas.List.Concat.{flat_map-cons}
@@ -18,7 +18,7 @@ use Rattle.feed_text.specs.declared.replies.RunReply.{RunReply}
 use Rattle.feed_text.specs.Replies.{reply_text}
 use Rattle.ingest_text.specs.Feeds.{IsQuery}
 use Rattle.driving.specs.Goings.{Goes}
-use Rattle.driving.proofs.GoingLaws.{Between, going_so, more_going, no_going}
+use Rattle.driving.proofs.GoingLaws.{going_so, more_going, no_going}
 use Rattle.plain_run.specs.declared.session_faults.SessionFault.{SessionFault}
 use Rattle.plain_run.specs.declared.session_faults.SessionFault.TheVariants as outside
 use Rattle.read_client.specs.declared.readers.Reader.{Reader}
@@ -26,8 +26,8 @@ use Rattle.plain_run.specs.Answering.{Replies, StillSettled, number_of}
 use Rattle.plain_run.specs.PlainRuns.{View, listen_text, plain_replies, plain_run, reply_to, snapshot_text, view_after}
 use Rattle.plain_run.specs.Sessions.{ViewAt}
 use Rattle.plain_run.specs.Settling.{StaysSettled}
-use Rattle.ingest_run.specs.Ends.{Asks, AsksAll, FaultAt}
-use Rattle.ingest_run.proofs.FaultLaws.{KeepsReader, fault_later, going_both}
+use Rattle.ingest_run.specs.Ends.{Asks, AsksAll}
+use Rattle.ingest_run.proofs.FaultLaws.{fault_later, going_both}
 
 -- ---- replies to questions
 

@@ -1,11 +1,8 @@
 -- What is done before a crew. Entries go newest first.
-use Rattle.std.proofs.Common.{◌≡◌, ℕ, ◌+◌, ◌≤◌, ◌^◌, ◌<◌, Option, Some, None, Result, Ok, Err, List, refl, sym, ap, subst, ◌∙◌}
-use Rattle.update_core.specs.declared.updates.Update.{Update}
+use Rattle.std.proofs.Common.{◌≡◌, ℕ, ◌+◌, ◌≤◌, ◌^◌, ◌<◌, Option, Some, None, Ok, Err, List, sym, subst, ◌∙◌}
 use Rattle.update_core.specs.declared.appends.FeedAppend.{FeedAppend}
 use Rattle.update_core.specs.Collections.{Collection}
 use Rattle.store_core.specs.declared.shards.ShardId.{ShardId}
-use Rattle.store_core.specs.declared.entries.Entry.{Entry}
-use Rattle.store_core.specs.Stores.{Stored}
 use Rattle.store_core.specs.Histories.{History}
 use Rattle.appends_core.specs.Feeds.{from_upper, weight_of_all}
 use Rattle.crew_core.specs.Completing.{IsBound}
@@ -13,20 +10,19 @@ use Rattle.feed_text.specs.declared.replies.RunReply.{RunReply}
 use Rattle.ingest_text.specs.declared.feeds.IngestFeed.{IngestFeed}
 use Rattle.read_client.specs.declared.readers.Reader.{Reader}
 use Rattle.driving.specs.Goings.{Goes}
-use Rattle.driving.proofs.GoingLaws.{Between, going_so, more_going, no_going}
+use Rattle.driving.proofs.GoingLaws.{going_so, more_going, no_going}
 use Rattle.plain_run.specs.declared.session_faults.SessionFault.{SessionFault}
 use Rattle.plain_run.specs.Answering.{OpensReader, Replies, number_of}
-use Rattle.plain_run.specs.Drives.{Failed}
-use Rattle.plain_run.specs.PlainRuns.{View, since_reply, view_since}
-use Rattle.plain_run.specs.Sessions.{StartsAt, ViewAt}
+use Rattle.plain_run.specs.PlainRuns.{since_reply, view_since}
+use Rattle.plain_run.specs.Sessions.{ViewAt}
 use Rattle.plain_run.proofs.ReplyLaws.{failed_more}
 use Rattle.plain_run.proofs.TendLaws.{somewhere}
 use Rattle.ingest_run.specs.declared.extents.Extent.{Extent}
 use Rattle.ingest_run.specs.declared.faults.IngestFault.{IngestFault}
 use Rattle.ingest_run.specs.declared.faults.IngestFault.TheVariants as faults
 use Rattle.ingest_run.specs.Bounds.{SuitsFeed, Unsuited}
-use Rattle.ingest_run.specs.Ends.{Advances, Begins, FaultAt, Joins, Suits, Unfit}
-use Rattle.ingest_run.specs.Looking.{Looks, Reaches, Saw}
+use Rattle.ingest_run.specs.Ends.{Advances, Begins, Joins, Suits, Unfit}
+use Rattle.ingest_run.specs.Looking.{Looks, Reaches}
 use Rattle.ingest_run.specs.PlainIngests.{since_done}
 use Rattle.ingest_run.proofs.FaultLaws.{fault_since, replies_fault}
 

@@ -1,5 +1,5 @@
 -- What a crew makes of a store, as what has become of it. Entries go newest first.
-use Rattle.std.proofs.Common.{◌≡◌, ◌⊎◌, ℕ, ◌+◌, ◌≤◌, ◌^◌, Option, Some, None, List, [], ◌++◌, inl, inr, refl, sym, ap, subst, ◌∙◌, append-nil}
+use Rattle.std.proofs.Common.{◌≡◌, ℕ, Option, Some, None, List, [], ◌++◌, inl, inr, refl, sym, ap, subst, ◌∙◌, append-nil}
 use Rattle.std.specs.Prelude.{reverse}
 use Rattle.update_core.specs.declared.updates.Update.{Update}
 use Rattle.update_core.specs.Collections.{Collection}
@@ -7,19 +7,15 @@ use Rattle.store_core.specs.declared.shards.ShardId.{ShardId}
 use Rattle.store_core.specs.declared.entries.Entry.{Entry}
 use Rattle.store_core.specs.Stores.{Stored, no_log}
 use Rattle.store_core.specs.Histories.{History}
-use Rattle.store_core.specs.Ports.{with_entries}
 use Rattle.store_core.specs.Newest.{replay_back}
-use Rattle.state_core.specs.declared.kinds.Kind.TheVariants.{Reader}
 use Rattle.state_core.specs.States.{ShardState}
-use Rattle.state_core.specs.Steps.{Stands}
-use Rattle.history_core.specs.Discipline.{Lawful}
 use Rattle.history_core.specs.Laws.{LastIs}
 use Rattle.history_core.specs.Legal.{collection_in}
-use Rattle.history_core.specs.Stands.{StandsFor, accepted}
+use Rattle.history_core.specs.Stands.{accepted}
 use Rattle.history_core.proofs.StateFacts.{state_none}
-use Rattle.crew_core.specs.Competing.{HasAppended, HasCollection, HasReader}
+use Rattle.crew_core.specs.Competing.{HasCollection, HasReader}
 use Rattle.crew.specs.declared.plans.Plan.{Plan}
-use Rattle.crew.specs.Crews.{CrewRan, CrewRanOn}
+use Rattle.crew.specs.Crews.{CrewRanOn}
 use Rattle.driving.specs.Goings.{Goes}
 use Rattle.plain_run.specs.PlainRuns.{View}
 use Rattle.plain_run.specs.Sessions.{ViewAt, other_sinces}

@@ -1,5 +1,5 @@
 -- What is done after a crew. Entries go newest first.
-use Rattle.std.proofs.Common.{◌≡◌, ◌≢◌, ◌⊎◌, inl, inr, true, false, ℕ, ◌+◌, ◌<◌, Option, Result, Ok, Err, List, ◌++◌, refl, sym, ap, subst, ◌∙◌, arith}
+use Rattle.std.proofs.Common.{◌≡◌, ◌≢◌, ◌⊎◌, inl, inr, ℕ, Option, Result, Ok, Err, List, ◌++◌, refl, sym, ap, subst, ◌∙◌, arith}
 use Rattle.std.specs.Prelude.{⊤}
 use Rattle.std.specs.List.{AllByRecursion}
 use Rattle.update_core.specs.declared.updates.Update.{Update}
@@ -9,31 +9,30 @@ use Rattle.store_core.specs.declared.shards.ShardId.{ShardId}
 use Rattle.store_core.specs.declared.entries.Entry.{Entry}
 use Rattle.store_core.specs.Stores.{Stored}
 use Rattle.store_core.specs.Histories.{History}
-use Rattle.store_core.specs.Newest.{replay_back}
 use Rattle.state_core.proofs.ListLemmas.{bool_cases}
 use Rattle.history_core.specs.Stands.{accepted}
 use Rattle.appends_core.specs.Feeds.{end_of_feed}
 use Rattle.crew.specs.declared.ends.WorkerEnd.{WorkerEnd}
 use Rattle.feed_text.specs.declared.feed_lines.FeedLine.{FeedLine}
 use Rattle.driving.specs.Goings.{Goes}
-use Rattle.driving.proofs.GoingLaws.{Between, going_so, more_going, no_going}
+use Rattle.driving.proofs.GoingLaws.{going_so, more_going, no_going}
 use Rattle.plain_run.specs.declared.session_faults.SessionFault.{SessionFault}
 use Rattle.plain_run.specs.declared.session_faults.SessionFault.TheVariants as outside
 use Rattle.ingest_text.specs.Feeds.{IsQuery}
 use Rattle.read_client.specs.declared.readers.Reader.{Reader}
 use Rattle.plain_run.specs.Answering.{Closed, OpensReader, TendsTo, number_of}
-use Rattle.plain_run.specs.PlainRuns.{View, plain_run}
+use Rattle.plain_run.specs.PlainRuns.{View}
 use Rattle.plain_run.specs.Sessions.{ViewAt, joining_view}
-use Rattle.plain_run.specs.Settling.{GetsSettled, IsSettledIn, StaysSettled}
+use Rattle.plain_run.specs.Settling.{GetsSettled}
 use Rattle.plain_run.proofs.Views.{view_accepted}
 use Rattle.ingest_run.specs.declared.extents.Extent.{Extent}
 use Rattle.ingest_run.specs.declared.faults.IngestFault.{IngestFault}
 use Rattle.ingest_run.specs.declared.faults.IngestFault.TheVariants as faults
-use Rattle.ingest_run.specs.Ends.{Answers, AsksAll, FaultAt, Finishes, Reports, SeesEnd, SettlesBy, ShortAt}
+use Rattle.ingest_run.specs.Ends.{Answers, AsksAll, Finishes, Reports, SeesEnd, SettlesBy, ShortAt}
 use Rattle.ingest_run.specs.Looking.{Looks}
 use Rattle.ingest_run.specs.Verdicts.{any_end, are_halted, crew_verdict, has_found_damage, is_full_end, is_memory_end, is_spent_end, short_of_end}
 use Rattle.ingest_run.proofs.AskLaws.{same_run}
-use Rattle.ingest_run.proofs.FaultLaws.{failed_fault, fault_later, fault_over, tends_fault}
+use Rattle.ingest_run.proofs.FaultLaws.{failed_fault, fault_later, fault_over}
 
 -- it is found by a worker
 abbrev IsOfCrew : IngestFault → Type 0

@@ -1,5 +1,5 @@
 -- A whole ingest. Entries go newest first.
-use Rattle.std.proofs.Common.{◌≡◌, ◌≢◌, ℕ, ◌+◌, ◌≤◌, ◌^◌, true, false, Option, Some, None, Result, Ok, Err, List, [], ◌++◌, inl, inr, refl, sym, ap, subst, ◌∙◌}
+use Rattle.std.proofs.Common.{◌≡◌, ℕ, ◌+◌, ◌≤◌, ◌^◌, Option, Some, None, Result, Ok, Err, List, [], ◌++◌, inl, inr, refl, sym, ap, subst, ◌∙◌}
 use Rattle.std.specs.Prelude.{nat_le}
 use Rattle.update_core.specs.declared.updates.Update.{Update}
 use Rattle.update_core.specs.declared.appends.FeedAppend.{FeedAppend}
@@ -18,9 +18,8 @@ use Rattle.read_client.specs.declared.readers.Reader.{Reader}
 use Rattle.feed_text.specs.declared.feed_lines.FeedLine.{FeedLine}
 use Rattle.driving.specs.Goings.{Goes}
 use Rattle.driving.proofs.GoingLaws.{Between, going_so, more_going}
-use Rattle.plain_run.specs.declared.session_faults.SessionFault.{SessionFault}
 use Rattle.plain_run.specs.Answering.{number_of}
-use Rattle.plain_run.specs.PlainRuns.{View, plain_run, view_since}
+use Rattle.plain_run.specs.PlainRuns.{View, plain_run}
 use Rattle.plain_run.specs.Sessions.{StartsAt, ViewAt}
 use Rattle.ingest_run.specs.declared.faults.IngestFault.{IngestFault}
 use Rattle.ingest_run.specs.declared.faults.IngestFault.TheVariants as faults

@@ -1,29 +1,27 @@
 -- What a look at a shard comes to. Entries go newest first.
-use Rattle.std.proofs.Common.{◌≡◌, ◌⊎◌, ℕ, suc, ◌+◌, Option, Some, Result, Ok, Err, List, [], ◌∷◌, arith, inl, inr, refl, sym, ap, subst, ◌∙◌}
-use Rattle.std.specs.Prelude.{IfSome}
+use Rattle.std.proofs.Common.{◌≡◌, ◌⊎◌, ℕ, suc, ◌+◌, Option, Some, Ok, List, [], ◌∷◌, arith, inl, inr, sym, ap, subst, ◌∙◌}
 use Rattle.update_core.specs.declared.updates.Update.{Update}
 use Rattle.update_core.specs.Collections.{Collection}
 use Rattle.store_core.specs.declared.shards.ShardId.{ShardId}
 use Rattle.store_core.specs.declared.entries.Entry.{Entry}
-use Rattle.store_core.specs.Stores.{Stored, no_log}
+use Rattle.store_core.specs.Stores.{Stored}
 use Rattle.store_core.specs.Histories.{History, reply}
 use Rattle.store_core.specs.Newest.{replay_back}
 use Rattle.state_core.specs.declared.transitions.Transition.TheVariants.{Init}
 use Rattle.state_core.specs.States.{ShardState}
-use Rattle.history_core.specs.Discipline.{LawfulBack}
 use Rattle.history_core.specs.Laws.{LastIs}
 use Rattle.history_core.specs.Placing.{AtLastScan, IsAnsweredScan, Placed, placed, places}
-use Rattle.history_core.specs.Stands.{accepted, end_of}
+use Rattle.history_core.specs.Stands.{end_of}
 use Rattle.history_core.proofs.Gaining.{places_gained}
 use Rattle.load_core.specs.Effects.{CommitsNone, CommitsStep, IsShown}
 use Rattle.driving.specs.Drives.{Answered}
 use Rattle.driving.specs.Goings.{Goes}
 use Rattle.driving.proofs.Driving.{shown_scan}
 use Rattle.driving.proofs.GoingLaws.{Between, going_so}
-use Rattle.plain_run.specs.PlainRuns.{View, empty_view}
-use Rattle.plain_run.specs.Sessions.{StartsAt, ViewAt, joining_view}
-use Rattle.plain_run.proofs.DriveLaws.{Unmoved, lawful_last, unmoved}
-use Rattle.plain_run.proofs.Quietly.{none_starts, quiet_none, quiet_start, quiet_stays, quiet_view}
+use Rattle.plain_run.specs.PlainRuns.{View}
+use Rattle.plain_run.specs.Sessions.{StartsAt, ViewAt}
+use Rattle.plain_run.proofs.DriveLaws.{lawful_last, unmoved}
+use Rattle.plain_run.proofs.Quietly.{none_starts, quiet_none, quiet_view}
 use Rattle.plain_run.proofs.Stepped.{step_commits}
 use Rattle.plain_run.proofs.Views.{one_last}
 use Rattle.ingest_run.specs.declared.extents.Extent.{Extent}

@@ -1,5 +1,5 @@
 -- A look at a shard is a rule. Entries go newest first.
-use Rattle.std.proofs.Common.{◌≡◌, ℕ, Option, Some, ◌∷◌, refl, sym, ap, subst, inl, inr}
+use Rattle.std.proofs.Common.{◌≡◌, Some, ◌∷◌, refl, ap, subst, inl, inr}
 use Rattle.state_core.specs.declared.transitions.Transition.{Transition}
 use Rattle.state_core.specs.declared.transitions.Transition.TheVariants.{Init}
 use Rattle.state_core.specs.States.{ShardState}

@@ -1,5 +1,5 @@
 -- A crew, and what is done after it. Entries go newest first.
-use Rattle.std.proofs.Common.{◌≡◌, ◌≢◌, ◌⊎◌, ℕ, ◌+◌, ◌≤◌, ◌^◌, Bool, true, false, Option, Some, None, Result, Ok, Err, List, [], ◌∷◌, ◌++◌, inl, inr, refl, sym, ap, subst}
+use Rattle.std.proofs.Common.{◌≡◌, ◌⊎◌, ℕ, ◌+◌, true, false, Option, Some, Result, Ok, Err, List, [], ◌∷◌, ◌++◌, inl, inr, refl, sym, ap, subst}
 use Rattle.std.proofs.Common.{◌∙◌, append-nil, arith}
 use Rattle.std.proofs.lemmas.Bool.Decides.{nat_tests}
 use Rattle.std.specs.List.{AllByRecursion}
@@ -7,30 +7,27 @@ use Rattle.update_core.specs.declared.updates.Update.{Update}
 use Rattle.update_core.specs.declared.appends.FeedAppend.{FeedAppend}
 use Rattle.update_core.specs.Collections.{Collection}
 use Rattle.update_core.specs.Frontiers.{is_at}
-use Rattle.store_core.specs.declared.shards.ShardId.{ShardId}
 use Rattle.store_core.specs.declared.entries.Entry.{Entry}
 use Rattle.store_core.specs.Stores.{Stored}
 use Rattle.store_core.specs.Histories.{History}
-use Rattle.store_core.specs.Newest.{replay_back}
 use Rattle.state_core.specs.Lists.{Among}
 use Rattle.state_core.proofs.ListLemmas.{bool_cases}
 use Rattle.history_core.specs.Stands.{StandsFor, accepted}
-use Rattle.appends_core.specs.Feeds.{IsFeed, end_from, end_of_feed, from_upper, rows_of, weight_of_all}
+use Rattle.appends_core.specs.Feeds.{IsFeed, end_from, from_upper, rows_of, weight_of_all}
 use Rattle.crew_core.specs.Competing.{HasAppended}
-use Rattle.crew_core.specs.Completing.{CompleteIsPlain, IsBound, plain_after}
+use Rattle.crew_core.specs.Completing.{CompleteIsPlain, plain_after}
 use Rattle.crew.specs.declared.plans.Plan.{Plan}
 use Rattle.feed_text.specs.declared.feed_lines.FeedLine.{FeedLine}
 use Rattle.ingest_text.specs.Feeds.{IsQuery}
 use Rattle.driving.specs.Goings.{Goes}
 use Rattle.driving.proofs.GoingLaws.{Between, going_so, more_going, no_going}
 use Rattle.plain_run.specs.declared.session_faults.SessionFault.{SessionFault}
-use Rattle.plain_run.specs.PlainRuns.{View, plain_run}
+use Rattle.plain_run.specs.PlainRuns.{View}
 use Rattle.plain_run.specs.Sessions.{ViewAt}
-use Rattle.plain_run.specs.Settling.{IsSettledIn}
 use Rattle.plain_run.proofs.Views.{accepted_stands, view_accepted}
 use Rattle.ingest_run.specs.declared.faults.IngestFault.{IngestFault}
 use Rattle.ingest_run.specs.declared.faults.IngestFault.TheVariants as faults
-use Rattle.ingest_run.specs.Ends.{Crewed, Ends, FaultAt, Rests, Suits, Takes, TakesSome, TakesUpTo, Works}
+use Rattle.ingest_run.specs.Ends.{Crewed, Ends, FaultAt, Suits, Takes, TakesSome, Works}
 use Rattle.ingest_run.specs.PlainIngests.{appends_done}
 use Rattle.ingest_run.proofs.AskLaws.{same_run}
 use Rattle.ingest_run.proofs.CrewGoes.{seen_again, sees_collection, sees_reader}

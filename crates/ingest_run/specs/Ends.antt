@@ -1,5 +1,5 @@
 -- How an ingest ends, over a store that is told. Entries go newest first.
-use Rattle.std.specs.Prelude.{⊤, ◌≡◌, ◌≢◌, ◌⊎◌, ℕ, ◌+◌, ◌<◌, ◌≤◌, ◌^◌, Option, Result, Ok, Err, List, ◌++◌}
+use Rattle.std.specs.Prelude.{◌≡◌, ◌≢◌, ℕ, ◌+◌, ◌<◌, ◌≤◌, ◌^◌, Option, Result, Ok, Err, List, ◌++◌}
 use Rattle.update_core.specs.declared.updates.Update.{Update}
 use Rattle.update_core.specs.declared.appends.FeedAppend.{FeedAppend}
 use Rattle.update_core.specs.Collections.{Collection}

@@ -1,4 +1,4 @@
-use Rattle.std.proofs.Common.{◌≡◌, ◌+◌, List, Ok, Err, drop, refl, subst, sym, ◌∙◌, ℕ, arith}
+use Rattle.std.proofs.Common.{◌+◌, List, Ok, Err, drop, refl, subst, sym, ◌∙◌, ℕ, arith}
 use Rattle.std.specs.List.{AllByRecursion}
 use Rattle.std.proofs.lemmas.List.{drop_all}
 use Rattle.std.proofs.lemmas.Result.{err_from_is_err_and}

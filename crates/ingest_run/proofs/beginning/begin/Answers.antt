@@ -1,11 +1,9 @@
-use Rattle.std.proofs.Common.{◌≡◌, Err, ap, subst, sym, ◌∙◌}
+use Rattle.std.proofs.Common.{Err, subst, sym}
 use Rattle.std.proofs.lemmas.Result.{err_from_is_err_and}
 use Rattle.update_core.specs.declared.appends.FeedAppend.{FeedAppend}
 use Rattle.std.proofs.Common.{List}
 use Rattle.driving.specs.Goings.{Goes}
-use Rattle.plain_run.specs.declared.session_faults.SessionFault.TheVariants as outside
 use Rattle.ingest_run.specs.declared.faults.IngestFault.{IngestFault}
-use Rattle.ingest_run.specs.declared.faults.IngestFault.TheVariants as faults
 use Rattle.ingest_run.specs.Bounds.{SuitsFeed, Unsuited}
 use Rattle.ingest_run.specs.Ends.{Begins}
 use Rattle.ingest_run.proofs.BeginLaws.{begun, begun_not, begun_unfit}

@@ -1,4 +1,4 @@
-use Rattle.std.proofs.Common.{None, Some, Option, Ok, Err, ℕ, subst, sym}
+use Rattle.std.proofs.Common.{Option, Ok, Err, ℕ, subst, sym}
 use Rattle.std.proofs.lemmas.Result.{err_from_is_err_and}
 use Rattle.driving.specs.Goings.{Goes}
 use Rattle.plain_run.specs.declared.session_faults.SessionFault.{SessionFault}

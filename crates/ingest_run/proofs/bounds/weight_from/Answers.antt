@@ -1,4 +1,4 @@
-use Rattle.std.proofs.Common.{◌≡◌, ◌+◌, ◌≤◌, ◌^◌, ℕ, drop, arith}
+use Rattle.std.proofs.Common.{arith}
 use Rattle.ingest_run.proofs.BoundLaws.{added_small, sum_all}
 use Rattle.ingest_run.proofs.bounds.weight_from.Goals as goal
 

@@ -1,5 +1,4 @@
-use Rattle.std.proofs.Common.{◌≡◌, ◌+◌, ◌-◌, ℕ, false, drop, sym, ap, ◌∙◌, arith}
-use Rattle.ingest_run.specs.Verdicts.{are_halted}
+use Rattle.std.proofs.Common.{sym, ◌∙◌}
 use Rattle.ingest_run.proofs.EndLaws.{halted_more, halted_not, halted_past}
 use Rattle.ingest_run.proofs.ends.are_halted.Goals as goal
 

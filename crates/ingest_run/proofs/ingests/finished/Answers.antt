@@ -1,4 +1,4 @@
-use Rattle.std.proofs.Common.{Ok, Err, List, subst, sym}
+use Rattle.std.proofs.Common.{Ok, Err, List, subst}
 use Rattle.update_core.specs.declared.appends.FeedAppend.{FeedAppend}
 use Rattle.driving.specs.Goings.{Goes}
 use Rattle.ingest_run.specs.Ends.{Finishes}

@@ -1,10 +1,10 @@
-use Rattle.std.proofs.Common.{Ok, Err, List, ℕ, subst, sym}
+use Rattle.std.proofs.Common.{Ok, Err, List, ℕ, subst}
 use Rattle.store_core.specs.declared.shards.ShardId.{ShardId}
 use Rattle.update_core.specs.declared.appends.FeedAppend.{FeedAppend}
 use Rattle.feed_text.specs.declared.feed_lines.FeedLine.{FeedLine}
 use Rattle.driving.specs.Goings.{Goes}
 use Rattle.plain_run.specs.Answering.{number_of}
-use Rattle.ingest_run.specs.Ends.{Begins, Ingests, Works, texts}
+use Rattle.ingest_run.specs.Ends.{Begins, Works, texts}
 use Rattle.ingest_run.proofs.IngestLaws.{ingested, ingested_not}
 use Rattle.ingest_run.proofs.ingests.ingest.Goals as goal
 

@@ -1,4 +1,4 @@
-use Rattle.std.proofs.Common.{Ok, Err, subst, sym}
+use Rattle.std.proofs.Common.{Err, subst, sym}
 use Rattle.store_core.specs.declared.shards.ShardId.{ShardId}
 use Rattle.driving.specs.Goings.{Goes}
 use Rattle.plain_run.specs.Answering.{ReaderReady, number_of}

@@ -3,11 +3,11 @@ use Rattle.std.specs.Prelude.{IsSome}
 use Rattle.load_core.specs.Fronts.{Backwards, WhereLawful}
 use Rattle.machine_core.specs.Polling.{FollowsWhere}
 use Rattle.try_machine.specs.declared.tryers.Tryer.{Tryer}
-use Rattle.try_machine.specs.Tryers.{IsSound, kept}
+use Rattle.try_machine.specs.Tryers.{IsSound}
 use Rattle.try_machine.proofs.Beginning.{asking_cost, asking_sound, asking_where, idle, idle_where}
 use Rattle.ingest_run.specs.declared.extents.Extent.{Extent}
 use Rattle.ingest_run.specs.declared.looks.Look.{Look}
-use Rattle.ingest_run.specs.Looking.{kept_look, looking, machine}
+use Rattle.ingest_run.specs.Looking.{looking, machine}
 use Rattle.ingest_run.proofs.LookRule.{look_made}
 use Rattle.ingest_run.proofs.looks.begun_look.Goals as goal
 

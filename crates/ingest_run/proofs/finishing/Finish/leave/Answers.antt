@@ -9,10 +9,11 @@ use Rattle.ingest_run.proofs.IdleReaders.{some_idle_past}
 use Rattle.ingest_run.proofs.finishing.Finish.leave.Goals as goal
 
 pub let_some_go-requires : goal.let_some_go-requires
-let_some_go-requires g c =
-    some_idle_past c.args.self.now.place.shard c.args.self.now.place.reader c.args.pin (g.S.Store.history c.args.port.now.store)
-    (g.S.Store.history c.close_reader.new.port.store) (Closed c.args.self.now.place.shard c.close_reader.result) c.close_reader.ensures.told
-    c.requires.pin
+let_some_go-requires g c = record {
+  idle = some_idle_past c.args.self.now.place.shard c.args.self.now.place.reader c.args.pin (g.S.Store.history c.args.port.now.store)
+      (g.S.Store.history c.close_reader.new.port.store) (Closed c.args.self.now.place.shard c.close_reader.result) c.close_reader.ensures.told
+      c.requires.pin;
+}
 
 pub returns-in_err-close_reader-clause-told : goal.returns-in_err-close_reader-clause-told
 returns-in_err-close_reader-clause-told g c =

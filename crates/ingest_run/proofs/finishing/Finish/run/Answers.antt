@@ -1,4 +1,4 @@
-use Rattle.std.proofs.Common.{Err, Ok, subst, sym, ◌∙◌}
+use Rattle.std.proofs.Common.{Err, subst, sym, ◌∙◌}
 use Rattle.std.proofs.lemmas.Result.{err_from_is_err_and}
 use Rattle.driving.specs.Goings.{Goes}
 use Rattle.plain_run.specs.Answering.{OpensReader, number_of}

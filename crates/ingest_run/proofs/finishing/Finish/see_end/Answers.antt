@@ -1,4 +1,4 @@
-use Rattle.std.proofs.Common.{◌≡◌, Err, Ok, true, false, subst, sym, ◌∙◌}
+use Rattle.std.proofs.Common.{◌≡◌, Err, true, false, subst, sym, ◌∙◌}
 use Rattle.std.proofs.lemmas.Result.{err_from_is_err_and}
 use Rattle.driving.specs.Goings.{Goes}
 use Rattle.ingest_run.specs.declared.faults.IngestFault.{IngestFault}
