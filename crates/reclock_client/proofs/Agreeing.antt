@@ -1,5 +1,5 @@
 -- Operators who know one remap shard have equal collections.
-use Rattle.std.proofs.Common.{◌≡◌, ℕ, ◌<◌, ◌≤◌, Bool, true, false, Option, Some, None, List, [], Result, Ok, Err, refl, sym, ap, subst, inl, inr}
+use Rattle.std.proofs.Common.{◌≡◌, ℕ, ◌<◌, Bool, true, false, Option, Some, None, List, Result, Ok, Err, sym, ap, subst, inl, inr}
 use Rattle.std.proofs.Common.{arith}
 use Rattle.std.proofs.lemmas.Bool.Decides.{nat_tests}
 use Rattle.std.specs.Prelude.{◌⊎◌, IfNone, IfOk, reverse}
@@ -17,7 +17,6 @@ use Rattle.remap_core.specs.declared.source_rows.SourceRow.{SourceRow}
 use Rattle.remap_core.specs.Extending.{with_rows}
 use Rattle.remap_core.specs.Reclocking.{reclocked}
 use Rattle.remap_core.specs.RemapShards.{IsBindingsOf}
-use Rattle.reclock_client.specs.declared.courses.Course.{Course}
 use Rattle.reclock_client.specs.declared.errands.Errand.{Errand}
 use Rattle.reclock_client.specs.declared.intakes.Intake.{Intake}
 use Rattle.reclock_client.specs.declared.intakes.Intake.TheVariants as intakes

@@ -1,12 +1,11 @@
 -- What an operator knows stays right while entries come, whoever makes them. Entries go newest first.
-use Rattle.std.proofs.Common.{◌≡◌, ℕ, ◌+◌, ◌<◌, ◌≤◌, Bool, true, false, cond, Option, Some, None, List, [], ◌∷◌, ◌++◌, refl, sym, ap, subst, ◌∙◌, arith}
+use Rattle.std.proofs.Common.{◌≡◌, ℕ, ◌+◌, ◌≤◌, Bool, true, false, cond, Option, Some, None, List, [], ◌∷◌, ◌++◌, sym, ap, subst, ◌∙◌, arith}
 use Rattle.std.proofs.Common.{inl, inr}
 use Rattle.std.specs.List.{AllByRecursion}
 use Rattle.std.specs.Prelude.{◌⊎◌, reverse}
 use Rattle.update_core.specs.declared.updates.Update.{Update}
 use Rattle.update_core.specs.Frontiers.{covers}
-use Rattle.update_core.specs.Updates.{OutOf, between, slice_of, sum_of}
-use Rattle.update_core.specs.Limits.{most}
+use Rattle.update_core.specs.Updates.{OutOf, sum_of}
 use Rattle.update_core.proofs.SliceLaws.{between-more}
 use Rattle.update_core.proofs.TallyLaws.{sum_of-covered}
 use Rattle.store_core.specs.declared.calls.Call.{Call}
@@ -32,7 +31,6 @@ use Rattle.history_core.proofs.Later.{accepted_past}
 use Rattle.history_core.proofs.LawfulLaws.{ever_behind, lawful_both, lawful_of_older, turned}
 use Rattle.history_core.proofs.LogTracks.{sound_at}
 use Rattle.history_core.proofs.Presence.{kept_at}
-use Rattle.load_core.specs.Fronts.{Backwards, WhereLawful}
 use Rattle.load_core.proofs.Gaining.{gains_backwards, lawful_forth}
 use Rattle.reclock_client.specs.Known.{IsRight, Knowledge}
 use Rattle.reclock_client.specs.Knowing.{KnowsOver, KnowsWhere, IsBlank, Learned}
@@ -109,10 +107,13 @@ sum_stays us more g t out c = sym (sum_of-covered (us ++ more) g t c) ∙ ap (λ
 out_too : (f g : Option ℕ) (us : List Update) → ((t : ℕ) → covers f t ≡ true → covers g t ≡ true) →
     AllByRecursion (λ u. covers g u.time ≡ false) us → AllByRecursion (λ u. covers f u.time ≡ false) us
 out_too f g [] less all = tt
-out_too f g (u ∷ us) less all = (elim (bool_cases (covers f u.time)) [
-  | inl e ↦ absurd (let bad : true ≡ false = sym (less u.time e) ∙ all.0 in cc)
-  | inr e ↦ e
-], out_too f g us less all.1)
+out_too f g (u ∷ us) less all = (
+  elim (bool_cases (covers f u.time)) [
+    | inl e ↦ absurd (let bad : true ≡ false = sym (less u.time e) ∙ all.0 in cc)
+    | inr e ↦ e
+  ],
+  out_too f g us less all.1,
+)
 
 -- ---- what is known
 

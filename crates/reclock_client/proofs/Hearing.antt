@@ -1,5 +1,5 @@
 -- What the reader of an operator is asked at a step, and what its legal answers make known. Entries go newest first.
-use Rattle.std.proofs.Common.{◌≡◌, ℕ, ◌+◌, ◌<◌, ◌≤◌, ℤ, pos, Bool, true, false, cond, Option, Some, None, List, [], refl, sym, ap, subst, ◌∙◌}
+use Rattle.std.proofs.Common.{◌≡◌, ℕ, ◌+◌, ◌<◌, Bool, true, false, cond, Option, Some, None, List, refl, sym, ap, subst, ◌∙◌}
 use Rattle.std.proofs.Common.{inl, inr, arith}
 use Rattle.std.proofs.lemmas.Bool.Decides.{nat_tests}
 use Rattle.std.specs.Prelude.{⊤, ◌⊎◌, ◌^◌, ◌-◌, IfSome, IsSome, IsSomeAnd, nat_lt}
@@ -8,7 +8,6 @@ use Rattle.update_core.specs.declared.updates.Update.{Update}
 use Rattle.update_core.specs.Collections.{content, step}
 use Rattle.update_core.specs.Frontiers.{after, covers}
 use Rattle.update_core.specs.Limits.{most}
-use Rattle.update_core.specs.Updates.{moved}
 use Rattle.store_core.specs.declared.entries.Entry.{Entry}
 use Rattle.store_core.specs.declared.shards.ShardId.{ShardId}
 use Rattle.store_core.specs.Stores.{Stored}
@@ -24,7 +23,6 @@ use Rattle.read_client.specs.Machining.{Kept, Legal, command_in, kept}
 use Rattle.read_client.specs.Polling.{ReadsParts}
 use Rattle.remap_core.specs.Extending.{last_time, reached, rows_at}
 use Rattle.remap_core.specs.Offsets.{unset}
-use Rattle.remap_core.specs.RemapShards.{change_at}
 use Rattle.reclock_client.specs.declared.courses.Course.{Course}
 use Rattle.reclock_client.specs.declared.errands.Errand.{Errand}
 use Rattle.reclock_client.specs.declared.intakes.Intake.TheVariants as intakes
@@ -34,7 +32,7 @@ use Rattle.reclock_client.specs.declared.steps.Step.{Step}
 use Rattle.reclock_client.specs.declared.steps.Step.TheVariants as steps
 use Rattle.reclock_client.specs.Asking.{AsksReader, InTurn, duties}
 use Rattle.reclock_client.specs.Commands.{strange, with_changes, with_content}
-use Rattle.reclock_client.specs.Known.{IsKnown, IsRight, Knowledge, knowledge}
+use Rattle.reclock_client.specs.Known.{IsKnown, Knowledge, knowledge}
 use Rattle.reclock_client.specs.Knowing.{IsBlank, KnowsOver, Learned}
 use Rattle.reclock_client.specs.Parts.{part_of}
 use Rattle.reclock_client.specs.Reading.{foreign_time, in_time}

@@ -1,7 +1,7 @@
 -- A poll keeps that an operator knows no more than its remap shard tells.
-use Rattle.std.proofs.Common.{◌≡◌, ℕ, ◌+◌, ◌<◌, ◌≤◌, Bool, true, false, Option, Some, None, List, [], Result, Ok, Err, refl, sym, ap, subst, ◌∙◌}
+use Rattle.std.proofs.Common.{◌≡◌, ℕ, ◌+◌, ◌<◌, Bool, Option, Some, None, List, refl, sym, ap, subst, ◌∙◌}
 use Rattle.std.proofs.Common.{inl, inr, arith}
-use Rattle.std.specs.Prelude.{⊤, ◌⊎◌, IfNone, IfOk, IsSome, OnErr, OnOk, min, reverse}
+use Rattle.std.specs.Prelude.{⊤, IfNone, IsSome, min, reverse}
 use Rattle.update_core.specs.declared.updates.Update.{Update}
 use Rattle.update_core.specs.Limits.{most}
 use Rattle.store_core.specs.declared.entries.Entry.{Entry}
@@ -39,8 +39,8 @@ use Rattle.reclock_client.specs.Commands.{after_data_writer, after_poll, after_r
 use Rattle.reclock_client.specs.Known.{Knowledge, knowledge}
 use Rattle.reclock_client.specs.Knowing.{Counts, Knows, KnowsOver, KnowsWhere}
 use Rattle.reclock_client.specs.Looking as looks
-use Rattle.reclock_client.specs.Operators.{IsOpen, IsSound, open_calls, part_of}
-use Rattle.reclock_client.specs.Polling.{DataBegun, DataStarts, Halts, Inner, LookStarts, ReadStarts, RemapBegun, RemapStarts, Starts, bound, counted}
+use Rattle.reclock_client.specs.Operators.{IsSound, open_calls, part_of}
+use Rattle.reclock_client.specs.Polling.{DataBegun, DataStarts, Halts, ReadStarts, RemapBegun, RemapStarts, Starts, bound, counted}
 use Rattle.reclock_client.proofs.Growing.{where_passed}
 use Rattle.reclock_client.proofs.Hearing.{asked_here, learns, tells}
 use Rattle.reclock_client.proofs.Learning.{Holds, Learns, busy_not, data_holds, polled_holds, published_holds, reader_holds, remap_holds}

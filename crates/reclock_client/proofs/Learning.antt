@@ -1,5 +1,5 @@
 -- What the table of answers makes of what an operator knows: all but a content and a step leave it as it was, or nothing is known.
-use Rattle.std.proofs.Common.{◌≡◌, ℕ, Bool, true, false, cond, Option, Some, None, List, [], refl, sym, subst}
+use Rattle.std.proofs.Common.{◌≡◌, ℕ, Bool, true, false, cond, Option, Some, None, List, [], refl}
 use Rattle.std.specs.Prelude.{⊤, IfNone, IsSome, nat_le}
 use Rattle.update_core.specs.declared.rows.Row.{Row}
 use Rattle.update_core.specs.declared.updates.Update.{Update}

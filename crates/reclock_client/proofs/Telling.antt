@@ -1,13 +1,13 @@
 -- What the reader's legal answers tell of the updates accepted by now. Entries go newest first.
-use Rattle.std.proofs.Common.{◌≡◌, ◌≢◌, ℕ, zero, suc, ◌+◌, ◌<◌, ◌≤◌, Bool, true, false, cond, Option, Some, None, List, [], ◌∷◌, ◌++◌, refl, sym}
+use Rattle.std.proofs.Common.{◌≡◌, ℕ, zero, suc, Bool, true, false, cond, Option, Some, None, List, [], ◌∷◌, ◌++◌, refl, sym}
 use Rattle.std.proofs.Common.{ap, subst, ◌∙◌, inl, inr, arith, eqb}
 use Rattle.std.proofs.lemmas.Bool.Decides.{nat_tests}
 use Rattle.std.specs.Ordering.{is_gt}
-use Rattle.std.specs.Prelude.{⊤, ◌⊎◌, IfSome, IsSomeAnd, map, nat_lt}
+use Rattle.std.specs.Prelude.{⊤, map}
 use Rattle.update_core.specs.declared.rows.Row.{Row}
 use Rattle.update_core.specs.declared.updates.Update.{Update}
 use Rattle.update_core.specs.Collections.{content, listen_answer, snapshot_answer, step}
-use Rattle.update_core.specs.Frontiers.{after, covers, frontier_cmp}
+use Rattle.update_core.specs.Frontiers.{covers, frontier_cmp}
 use Rattle.update_core.specs.Totals.{consolidated}
 use Rattle.update_core.specs.Updates.{between, slice_of, sum_of, time_cmp, time_entry, update_in_time}
 use Rattle.update_core.proofs.SliceLaws.{between-more}
@@ -16,23 +16,18 @@ use Rattle.store_core.specs.declared.shards.ShardId.{ShardId}
 use Rattle.store_core.specs.Newest.{replay_back}
 use Rattle.store_core.specs.Stores.{Stored}
 use Rattle.state_core.specs.States.{ShardState}
-use Rattle.state_core.proofs.ListLemmas.{bool_cases}
-use Rattle.history_core.specs.declared.asked.Asked.{Asked}
-use Rattle.history_core.specs.declared.asked.Asked.TheVariants as asks
 use Rattle.history_core.specs.declared.read_answers.ReadAnswer.{ReadAnswer}
 use Rattle.history_core.specs.declared.read_answers.ReadAnswer.TheVariants as reads
 use Rattle.history_core.specs.Discipline.{LawfulBack}
 use Rattle.history_core.specs.Laws.{LastIs}
-use Rattle.history_core.specs.Legal.{Listens, LegalOfReader, LegalReadBack, ReadsAt, Snapshots, collection_in}
-use Rattle.history_core.specs.Placing.{AtLastScan, IsAnsweredScan, Placed, placed, places}
+use Rattle.history_core.specs.Legal.{Listens, ReadsAt, Snapshots, collection_in}
+use Rattle.history_core.specs.Placing.{AtLastScan, Placed, placed, places}
 use Rattle.history_core.specs.Stands.{StandsFor, accepted}
 use Rattle.history_core.proofs.GotRows.{listen_step, snapshot_rows}
-use Rattle.read_client.specs.Machining as readers
-use Rattle.read_client.specs.Machining.{Kept, Legal}
 use Rattle.reclock_client.specs.declared.courses.Course.{Course}
 use Rattle.reclock_client.specs.declared.steps.Step.{Step}
 use Rattle.reclock_client.specs.declared.steps.Step.TheVariants as steps
-use Rattle.reclock_client.proofs.Growing.{Later, gained, later, sum_stays}
+use Rattle.reclock_client.proofs.Growing.{gained, later, sum_stays}
 
 -- ---- the last Scan's place
 
