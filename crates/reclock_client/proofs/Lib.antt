@@ -22,6 +22,7 @@ pub mod Telling
 pub mod Learning
 pub mod Hearing
 pub mod Keeping
+pub mod Sane
 pub mod Proposing
 pub mod MintSums
 pub mod Raising

@@ -10,5 +10,6 @@ pub mod Operators
 pub mod Polling
 pub mod Known
 pub mod Knowing
+pub mod Damages
 pub mod Asking
 pub mod Proposals
