@@ -118,7 +118,7 @@ covered_until (Some u) s t low k c =
 module _ (shard : ShardId) (start : Stored) (es : List Entry) (list : List Update) (k : Kept) (c : Course)
     (taken : c.intake ≡ intakes.Nothing) (asked : IsAskedAt k c c.step) (over : KnowsOver shard (knowledge c) c.listens start es list) where
   -- at a step of a listen something is known
-  sure : (at : Step) → at ≡ c.step → IsListening at → c.since < most → Learned shard start es list (knowledge c)
+  pub sure : (at : Step) → at ≡ c.step → IsListening at → c.since < most → Learned shard start es list (knowledge c)
   sure at is listening low = by at listening (subst (λ (s : Step). IsAskedAt k c s) (sym is) asked) (over low)
     where
       by : (s : Step) → IsListening s → IsAskedAt k c s → (IsBlank (knowledge c) × (c.listens ≡ false)) ⊎ Learned shard start es list (knowledge c)

@@ -49,7 +49,7 @@ use Rattle.reclock_client.proofs.Telling.{Tells}
 
 -- ---- the count of calls
 
-few_calls : (a b x : ℕ) → min (min (a + b) most + x) most < most → b < most
+pub few_calls : (a b x : ℕ) → min (min (a + b) most + x) most < most → b < most
 few_calls a b x h = omega (arith)
 
 module _ (client : ℕ) (front now : Option History) (o : Operator) (busy : IsSome o.course.errand)
@@ -189,40 +189,56 @@ module _ (client : ℕ) (front now : Option History) (o : Operator) (busy : IsSo
 
 -- ---- before the call
 
-remap_same : (step : Step) (old new : Operator) → RemapStarts step old new → new.remap ≡ old.remap
-remap_same steps.JoinRemap old new r = ap (λ (o : Operator). o.remap) r
+-- it is of the same shards, and stands so but for its step
+pub record Same (old new : Operator) : Type 0 where
+  pub remap : new.remap ≡ old.remap
+  pub data_shard : new.data_shard ≡ old.data_shard
+  pub course : new.course ≡ record old.course { step = new.course.step }
+
+same_as : (old new mid : Operator) (s : Step) → new ≡ mid → mid.remap ≡ old.remap → mid.data_shard ≡ old.data_shard →
+    mid.course ≡ record old.course { step = s } → Same old new
+same_as old new mid s is remap data_shard course =
+    let there : new.course ≡ record old.course { step = s } = ap (λ (o : Operator). o.course) is ∙ course in
+    record {
+      remap = ap (λ (o : Operator). o.remap) is ∙ remap;
+      data_shard = ap (λ (o : Operator). o.data_shard) is ∙ data_shard;
+      course = there ∙ ap (λ (x : Step). record old.course { step = x }) (sym (ap (λ (c : Course). c.step) there));
+    }
+
+remap_same : (step : Step) (old new : Operator) → RemapStarts step old new → Same old new
+remap_same steps.JoinRemap old new r = same_as old new _ old.course.step r refl refl refl
 remap_same (steps.AppendRemap from) old new (w, b, begins, began) = by b began
   where
-    by : (x : Begun) → RemapBegun x (record old { remap_writer = w }) new → new.remap ≡ old.remap
-    by begun.Yes h = ap (λ (o : Operator). o.remap) h
-    by begun.Spent h = ap (λ (o : Operator). o.remap) h.1
-remap_same other old new r = ap (λ (o : Operator). o.remap) r.1
+    by : (x : Begun) → RemapBegun x (record old { remap_writer = w }) new → Same old new
+    by begun.Yes h = same_as old new _ old.course.step h refl refl refl
+    by begun.Spent h = same_as old new _ steps.LeaveRemap h.1 refl refl refl
+remap_same other old new r = same_as old new _ old.course.step r.1 refl refl refl
 
-data_same : (step : Step) (old new : Operator) → DataStarts step old new → new.remap ≡ old.remap
-data_same steps.JoinData old new r = ap (λ (o : Operator). o.remap) r
+data_same : (step : Step) (old new : Operator) → DataStarts step old new → Same old new
+data_same steps.JoinData old new r = same_as old new _ old.course.step r refl refl refl
 data_same (steps.AppendData from) old new (w, b, begins, began) = by b began
   where
-    by : (x : Begun) → DataBegun x (record old { data_writer = w }) new → new.remap ≡ old.remap
-    by begun.Yes h = ap (λ (o : Operator). o.remap) h
-    by begun.Spent h = ap (λ (o : Operator). o.remap) h.1
-data_same other old new r = ap (λ (o : Operator). o.remap) r.1
+    by : (x : Begun) → DataBegun x (record old { data_writer = w }) new → Same old new
+    by begun.Yes h = same_as old new _ old.course.step h refl refl refl
+    by begun.Spent h = same_as old new _ steps.LeaveData h.1 refl refl refl
+data_same other old new r = same_as old new _ old.course.step r.1 refl refl refl
 
-read_same : (step : Step) (old new : Operator) → ReadStarts step old new → new.remap ≡ old.remap
-read_same steps.JoinReader old new r = ap (λ (o : Operator). o.remap) r
-read_same steps.Snapshot old new r = ap (λ (o : Operator). o.remap) r.1
-read_same steps.Listen old new r = ap (λ (o : Operator). o.remap) r.1
-read_same steps.Next old new r = ap (λ (o : Operator). o.remap) r.1
-read_same other old new r = ap (λ (o : Operator). o.remap) r.1
+read_same : (step : Step) (old new : Operator) → ReadStarts step old new → Same old new
+read_same steps.JoinReader old new r = same_as old new _ old.course.step r refl refl refl
+read_same steps.Snapshot old new r = same_as old new _ old.course.step r.1 refl refl refl
+read_same steps.Listen old new r = same_as old new _ old.course.step r.1 refl refl refl
+read_same steps.Next old new r = same_as old new _ old.course.step r.1 refl refl refl
+read_same other old new r = same_as old new _ old.course.step r.1 refl refl refl
 
-same_remap : (part : Part) (old new : Operator) → Starts part old new → new.remap ≡ old.remap
-same_remap parts.RemapWriter old new (inl h) = ap (λ (o : Operator). o.remap) h.1
-same_remap parts.RemapWriter old new (inr h) = remap_same old.course.step old new h.1
-same_remap parts.Reader old new (inl h) = ap (λ (o : Operator). o.remap) h.1
-same_remap parts.Reader old new (inr h) = read_same old.course.step old new h.1
-same_remap parts.DataWriter old new (inl h) = ap (λ (o : Operator). o.remap) h.1
-same_remap parts.DataWriter old new (inr h) = data_same old.course.step old new h.1
-same_remap parts.Looker old new (inl h) = ap (λ (o : Operator). o.remap) h.1
-same_remap parts.Looker old new (inr h) = ap (λ (o : Operator). o.remap) h.1
+pub starts_same : (part : Part) (old new : Operator) → Starts part old new → Same old new
+starts_same parts.RemapWriter old new (inl h) = same_as old new old old.course.step h.1 refl refl refl
+starts_same parts.RemapWriter old new (inr h) = remap_same old.course.step old new h.1
+starts_same parts.Reader old new (inl h) = same_as old new old old.course.step h.1 refl refl refl
+starts_same parts.Reader old new (inr h) = read_same old.course.step old new h.1
+starts_same parts.DataWriter old new (inl h) = same_as old new old old.course.step h.1 refl refl refl
+starts_same parts.DataWriter old new (inr h) = data_same old.course.step old new h.1
+starts_same parts.Looker old new (inl h) = same_as old new old old.course.step h.1 refl refl refl
+starts_same parts.Looker old new (inr h) = same_as old new _ old.course.step h.1 refl refl refl
 
 module _ (front : Option History) (o : Operator) (busy : IsSome o.course.errand) where
   -- the rows that were read are bound
@@ -241,12 +257,12 @@ module _ (front : Option History) (o : Operator) (busy : IsSome o.course.errand)
 
   -- the command that is next is open
   pub readied_knows : (c : Course) (ready : Operator) → c ≡ bound o.course → Starts (part_of c.step) (record o { course = c }) ready →
-      ready.course ≡ record c { step = ready.course.step } → Knows front o → Knows front ready
-  readied_knows c ready is starts course k =
+      Knows front o → Knows front ready
+  readied_knows c ready is starts k =
       let k2 = bound_knows c is k in
-      let at : ready.remap ≡ o.remap = same_remap (part_of c.step) (record o { course = c }) ready starts in
+      let same = starts_same (part_of c.step) (record o { course = c }) ready starts in
       record {
-        bound = subst (λ (x : Course). IfNone x.errand (x.intake ≡ intakes.Nothing)) (sym course) k2.bound;
-        knows = subst (λ (d : ShardId). KnowsWhere front d (knowledge ready.course) ready.course.listens) (sym at)
-            (subst (λ (x : Course). KnowsWhere front o.remap (knowledge x) x.listens) (sym course) k2.knows);
+        bound = subst (λ (x : Course). IfNone x.errand (x.intake ≡ intakes.Nothing)) (sym same.course) k2.bound;
+        knows = subst (λ (d : ShardId). KnowsWhere front d (knowledge ready.course) ready.course.listens) (sym same.remap)
+            (subst (λ (x : Course). KnowsWhere front o.remap (knowledge x) x.listens) (sym same.course) k2.knows);
       }

@@ -23,6 +23,7 @@ pub mod Learning
 pub mod Hearing
 pub mod Keeping
 pub mod Sane
+pub mod Undamaged
 pub mod Proposing
 pub mod MintSums
 pub mod Raising

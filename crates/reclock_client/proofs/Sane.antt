@@ -16,6 +16,7 @@ use Rattle.history_core.specs.declared.write_answers.WriteAnswer.{WriteAnswer}
 use Rattle.history_core.specs.declared.write_answers.WriteAnswer.TheVariants as writes
 use Rattle.history_core.specs.Legal.{Command, LegalReadAt, LegalWriteAt}
 use Rattle.history_core.specs.Placing.{Placed}
+use Rattle.load_core.specs.declared.damages.Damage.{Damage}
 use Rattle.load_core.specs.declared.polls.Poll.{Poll}
 use Rattle.load_core.specs.declared.polls.Poll.TheVariants as polls
 use Rattle.remap_core.specs.Extending.{InTime, last_time, reached, rows_at}
@@ -28,8 +29,8 @@ use Rattle.reclock_client.specs.declared.errands.Errand.TheVariants as errands
 use Rattle.reclock_client.specs.declared.steps.Step.{Step}
 use Rattle.reclock_client.specs.declared.steps.Step.TheVariants as steps
 use Rattle.reclock_client.specs.Asking.{AsksData, AsksReader, AsksRemap, Duties, IsAppendOf}
-use Rattle.reclock_client.specs.Commands.{after_append_data, after_append_remap, after_data_writer, after_join_data, after_join_reader}
-use Rattle.reclock_client.specs.Commands.{after_join_remap, after_leave_data, after_leave_reader, after_leave_remap, after_listen, after_reader}
+use Rattle.reclock_client.specs.Commands.{Next, after_append_data, after_append_remap, after_data_writer, after_join_data, after_join_reader}
+use Rattle.reclock_client.specs.Commands.{after_join_remap, after_leave_data, after_leave_reader, after_leave_remap, after_listen, after_poll, after_reader}
 use Rattle.reclock_client.specs.Commands.{after_remap_writer, after_snapshot, ends, forgotten, goes, minted_at, nothing_yet, published_from}
 use Rattle.reclock_client.specs.Commands.{read_all, strange, with_changes, with_content, with_late, with_listen, with_step}
 use Rattle.reclock_client.specs.Reading.{foreign_time, in_time}
@@ -49,6 +50,16 @@ none_both : (o : Option ℕ) (f : Option (Option ℕ)) → IsSomeAnd o (λ m. Is
 none_both None f h = h
 none_both (Some m) None h = h
 none_both (Some m) (Some x) h = h
+
+-- what an inner poll comes to, where that poll isn't Damaged
+pub poll_sane : (A : Type 0) (answered : A → Next) (c : Course) (p : Poll A) → ((damage : Damage) → p ≡ polls.Damaged damage → ⊥) →
+    ((answer : A) → p ≡ polls.Done answer → IsSane (answered answer).1) → IsSane (after_poll answered c p).1
+poll_sane A answered c polls.Busy never f = tt
+poll_sane A answered c polls.More never f = tt
+poll_sane A answered c polls.Fault never f = tt
+poll_sane A answered c polls.Spent never f = tt
+poll_sane A answered c (polls.Damaged damage) never f = absurd (never damage refl)
+poll_sane A answered c (polls.Done answer) never f = f answer refl
 
 -- ---- what asks nothing of an answer
 
@@ -94,6 +105,16 @@ late_sane c upper errand e for_ = by (is_at upper 0)
     by false = tt
 
 -- ---- an answer at a step
+
+-- the rows of a step are in the order of time
+abbrev pub InOrder : Course → ReadAnswer → Type 0
+InOrder c (reads.Step from to rows) = in_time (last_time c.bindings) rows ≡ true
+InOrder c other = ⊤
+
+abbrev pub AtListen : Course → Step → ReadAnswer → Type 0
+AtListen c steps.Listen answer = InOrder c answer
+AtListen c steps.Next answer = InOrder c answer
+AtListen c other answer = ⊤
 
 module _ (k : Clients) (h : Heard) (c : Course) (d : Duties) (list : List Update) (start : Stored) (cmd : Command) (ps : List Placed) where
   join_remap_sane : (errand : Errand) (shard : ShardId) (answer : WriteAnswer) → Takes k h errand steps.JoinRemap →
@@ -202,12 +223,7 @@ module _ (k : Clients) (h : Heard) (c : Course) (d : Duties) (list : List Update
         subst (λ (b : Bool). IsSane (cond b (with_changes c rows to (foreign_time (reached c.bindings) rows)) (strange c)).1) (sym order)
         (changes_sane c rows to (foreign_time (reached c.bindings) rows))
 
-    -- the rows of a step are in the order of time
-    abbrev InOrder : ReadAnswer → Type 0
-    InOrder (reads.Step from to rows) = in_time (last_time c.bindings) rows ≡ true
-    InOrder other = ⊤
-
-    listen_sane : (as_of : ℕ) (answer : ReadAnswer) → ForReading errand → InOrder answer →
+    listen_sane : (as_of : ℕ) (answer : ReadAnswer) → ForReading errand → InOrder c answer →
         LegalReadAt list start cmd ps (asks.Listen as_of) answer → IsSane (after_listen c answer).1
     listen_sane as_of (reads.Step from to rows) for_ order l = step_sane rows to order
     listen_sane as_of (reads.Quiet upper) for_ order l = read_at (with_listen c) c.errand errand e for_
@@ -216,7 +232,7 @@ module _ (k : Clients) (h : Heard) (c : Course) (d : Duties) (list : List Update
     listen_sane as_of (reads.Expired version) for_ order l = tt
     listen_sane as_of other for_ order l = absurd (none_and cmd.member l)
 
-    next_sane : (answer : ReadAnswer) → ForReading errand → InOrder answer → LegalReadAt list start cmd ps asks.Next answer →
+    next_sane : (answer : ReadAnswer) → ForReading errand → InOrder c answer → LegalReadAt list start cmd ps asks.Next answer →
         IsSane (after_listen c answer).1
     next_sane (reads.Step from to rows) for_ order l = step_sane rows to order
     next_sane (reads.Quiet upper) for_ order l = read_at (with_listen c) c.errand errand e for_
@@ -229,13 +245,7 @@ module _ (k : Clients) (h : Heard) (c : Course) (d : Duties) (list : List Update
     leave_reader_sane (reads.Closed version) l = tt
     leave_reader_sane other l = absurd (none_and cmd.member l)
 
-    -- what a step of a listen asks for
-    abbrev pub AtListen : Step → ReadAnswer → Type 0
-    AtListen steps.Listen answer = InOrder answer
-    AtListen steps.Next answer = InOrder answer
-    AtListen other answer = ⊤
-
-    pub reader_sane : (at : Step) (asked : Asked) (answer : ReadAnswer) → Takes k h errand at → AsksReader d at asked → AtListen at answer →
+    pub reader_sane : (at : Step) (asked : Asked) (answer : ReadAnswer) → Takes k h errand at → AsksReader d at asked → AtListen c at answer →
         LegalReadAt list start cmd ps asked answer → IsSane (after_reader c at answer).1
     reader_sane steps.JoinReader asked answer t is order l = join_reader_sane d.remap_at d.moment d.lease answer
         (subst (λ (x : Asked). LegalReadAt list start cmd ps x answer) is l)

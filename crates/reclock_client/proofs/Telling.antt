@@ -69,6 +69,8 @@ pub record StepTold (shard : ShardId) (start : Stored) (es : List Entry) (list :
   pub state : ShardState
   pub last : LastIs (replay_back start es) shard number state
   pub within : (t : ℕ) → covers to t ≡ true → covers state.upper t ≡ true
+  pub time : ℕ
+  pub at : f ≡ Some time
   pub forward : is_gt (frontier_cmp f to) ≡ false
   pub rows_are : rows ≡ slice_of (accepted shard list start es) f to
 
@@ -116,6 +118,8 @@ module _ (shard : ShardId) (start : Stored) (es : List Entry) (list : List Updat
         state = up.state;
         last = up.last;
         within = λ t c. up.covered t (subst (λ (g : Option ℕ). covers g t ≡ true) ends c);
+        time = told.time;
+        at = told.at;
         forward = subst (λ (g : Option ℕ). is_gt (frontier_cmp from g) ≡ false) (sym ends)
             (subst (λ (g : Option ℕ). is_gt (frontier_cmp g s.upper) ≡ false) (sym told.at)
             (not_past s.upper told.time told.before_upper));
