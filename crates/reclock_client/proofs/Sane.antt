@@ -1,8 +1,8 @@
 -- Of legal inner answers the table makes nothing Damaged. Entries go newest first.
-use Rattle.std.proofs.Common.{◌≡◌, ℕ, ◌≤◌, Bool, true, false, cond, Option, Some, None, List, [], ◌∷◌, refl, sym, ap, subst, ◌∙◌, arith}
+use Rattle.std.proofs.Common.{◌≡◌, ℕ, ◌≤◌, Bool, true, false, cond, Option, Some, None, List, [], ◌∷◌, refl, sym, subst, arith}
 use Rattle.std.proofs.lemmas.Bool.Decides.{nat_tests}
 use Rattle.std.specs.List.{AllByRecursion}
-use Rattle.std.specs.Prelude.{⊤, IfSome, IsSome, IsSomeAnd, nat_le}
+use Rattle.std.specs.Prelude.{⊤, IsSomeAnd, nat_le}
 use Rattle.update_core.specs.declared.rows.Row.{Row}
 use Rattle.update_core.specs.declared.updates.Update.{Update}
 use Rattle.update_core.specs.Frontiers.{covers, is_at}

@@ -1,7 +1,7 @@
 -- A poll of an operator over collections is never Damaged. Entries go newest first.
-use Rattle.std.proofs.Common.{◌≡◌, ℕ, ◌+◌, ◌<◌, ◌≤◌, true, false, Option, Some, None, List, [], ◌∷◌, refl, sym, ap, subst, ◌∙◌}
+use Rattle.std.proofs.Common.{◌≡◌, ℕ, ◌+◌, ◌<◌, true, false, Option, Some, None, List, [], ◌∷◌, refl, sym, ap, subst, ◌∙◌}
 use Rattle.std.specs.List.{AllByRecursion}
-use Rattle.std.specs.Prelude.{⊤, IfSome, IsSome, min, reverse}
+use Rattle.std.specs.Prelude.{IfSome, IsSome, min, reverse}
 use Rattle.update_core.specs.declared.updates.Update.{Update}
 use Rattle.update_core.specs.Frontiers.{covers}
 use Rattle.update_core.specs.Limits.{most}
@@ -28,7 +28,7 @@ use Rattle.read_client.specs.declared.readers.Reader.{Reader}
 use Rattle.read_client.specs.Machining as readers
 use Rattle.write_client.specs.Machining as writers
 use Rattle.remap_core.specs.Extending.{InTime, last_time, with_rows}
-use Rattle.remap_core.specs.RemapShards.{IsBinding, IsBindingsOf}
+use Rattle.remap_core.specs.RemapShards.{IsBinding}
 use Rattle.remap_core.proofs.StepLaws.{slice_in_time}
 use Rattle.reclock_client.specs.declared.courses.Course.{Course}
 use Rattle.reclock_client.specs.declared.errands.Errand.{Errand}
@@ -40,7 +40,7 @@ use Rattle.reclock_client.specs.declared.steps.Part.TheVariants as parts
 use Rattle.reclock_client.specs.declared.steps.Step.{Step}
 use Rattle.reclock_client.specs.declared.steps.Step.TheVariants as steps
 use Rattle.reclock_client.specs.Asking.{AsksData, AsksReader, AsksRemap, InTurn, duties}
-use Rattle.reclock_client.specs.Commands.{Next, after_data_writer, after_poll, after_reader, after_remap_writer, published_from}
+use Rattle.reclock_client.specs.Commands.{after_data_writer, after_reader, after_remap_writer, published_from}
 use Rattle.reclock_client.specs.Damages.{IsNoCollection, NeverDamaged}
 use Rattle.reclock_client.specs.Known.{knowledge, known}
 use Rattle.reclock_client.specs.Knowing.{Counts, Knows, KnowsWhere, Learned}

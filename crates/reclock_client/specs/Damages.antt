@@ -1,5 +1,5 @@
 -- That an operator's poll over collections is never Damaged.
-use Rattle.std.specs.Prelude.{◌≡◌, ℕ, ◌<◌, Option, IfSome, IsSome, List}
+use Rattle.std.specs.Prelude.{ℕ, ◌<◌, Option, IfSome, IsSome, List}
 use Rattle.update_core.specs.declared.updates.Update.{Update}
 use Rattle.update_core.specs.Limits.{most}
 use Rattle.store_core.specs.declared.shards.ShardId.{ShardId}
