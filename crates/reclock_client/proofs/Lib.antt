@@ -24,6 +24,7 @@ pub mod Hearing
 pub mod Keeping
 pub mod Sane
 pub mod Undamaged
+pub mod Foreigners
 pub mod Proposing
 pub mod MintSums
 pub mod Raising

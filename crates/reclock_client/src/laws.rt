@@ -2,7 +2,7 @@
 ghost use Rattle.machine_core.specs.Machines.{Keeps};
 ghost use Rattle.reclock_client.specs.Looking.{machine};
 ghost use Rattle.reclock_client.specs.Known.{CollectionsAgree, ContentIsKnown, KnownStays, MintFits, MintRaises, MintRaisesSums, StepIsKnown};
-ghost use Rattle.reclock_client.specs.Damages.{NeverDamaged};
+ghost use Rattle.reclock_client.specs.Damages.{ForeignCauses, NeverDamaged};
 ghost use Rattle.reclock_client.specs.Knowing.{KnowsOn, OperatorsAgree};
 ghost use Rattle.reclock_client.specs.Proposals.{DataAppends, DataCalls, RemapAppends, RemapCalls};
 
@@ -35,6 +35,11 @@ pub fn operators_agree()
 /// Over a lawful history of a collection for both shards no poll of an operator is Damaged.
 pub fn never_damaged()
     ensures { NeverDamaged }
+{}
+
+/// Over a lawful history of a collection for the remap shard a Foreign answer has its cause among the updates that the shard has accepted.
+pub fn foreign_causes()
+    ensures { ForeignCauses }
 {}
 
 /// Where two operators know one list of updates, it is the same: their collections of equal rows have equal sums at each time that both know.
