@@ -49,7 +49,7 @@ module _ (crew : CrewWords) (told told_now : Option History) (left left_now : Op
   gains line same gained = subst (λ (t : Option (List ℕ)). Gains t taken_now line) same gained
 
   no_put : status ≡ 5 → Rose puts_mid puts_now → Says
-  no_put five rose = (ends.AsRun endings.OutputFailed, five, rose_sooner puts puts_mid puts_now later rose)
+  no_put five rose = (ends.AsRun endings.OutputFailed, (five, rose_sooner puts puts_mid puts_now later rose))
 
   -- as a run ends
   as_run : (e : Ending) → Ended (ends.AsRun e) → Finishes (Some e) status between taken_now puts_mid puts_now → Says
