@@ -89,15 +89,5 @@ pub fn over_file<
     ensures shut { is_shut result.store ≡ true → Rose (disk_faults store) (disk_faults result.store) }
     ensures failed { result.status ≡ 6 → is_shut result.store ≡ true }
 {
-    watch::<So, Si, D, K, G, R, Brand>(
-        rt,
-        alloc,
-        words,
-        src,
-        out,
-        store,
-        clock,
-        gate,
-        PhantomData,
-    )
+    watch::<So, Si, D, K, G, R, Brand>(rt, alloc, words, src, out, store, clock, gate, PhantomData)
 }

@@ -31,13 +31,15 @@ pub fn crew_of(alloc: Global, words: &[String]) -> Result<Option<CrewWords>, All
     ensures none { result ≡ Ok None → NoCrew (map string_bytes words.now) }
 {
     match parse_words(alloc, words) {
-        Ok(CommandWords::Ingest {
-            shard,
-            writers,
-            compactors,
-            collectors,
-            stops,
-        }) => Ok(Some(CrewWords {
+        Ok(
+            CommandWords::Ingest {
+                shard,
+                writers,
+                compactors,
+                collectors,
+                stops,
+            },
+        ) => Ok(Some(CrewWords {
             shard: ShardId(shard),
             size: CrewSize {
                 writers,

@@ -256,7 +256,11 @@ fn either_of_two_workers_may_wait(rt: HostRuntime) -> Result<(), Fail> {
             };
             let store = MemStore::new(alloc, FaultList::new(alloc));
             let (end, taken) = top_ended(&rt, alloc, &case, store, &gate)?;
-            assert_eq!(rt; (end.status, gate.ran_out.load(Ordering::SeqCst)), (0, 0), "{words}");
+            assert_eq!(rt;
+                (end.status, gate.ran_out.load(Ordering::SeqCst)),
+                (0, 0),
+                "{words}"
+            );
             assert_eq!(rt; taken.as_slice(), b"1 a\n.\n".as_slice(), "{words}");
         }
     }
