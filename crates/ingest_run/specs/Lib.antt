@@ -1,0 +1,6 @@
+pub mod Looking
+pub mod Idling
+pub mod Bounds
+pub mod Verdicts
+pub mod PlainIngests
+pub mod Ends
