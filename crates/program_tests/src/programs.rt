@@ -17,7 +17,8 @@ use store_core::{
 use update_core::Frontier;
 use version_codec::decode_version;
 
-fn numbers(alloc: Global, items: &[u64]) -> Result<NumberList, AllocError> {
+/// A list of numbers.
+pub fn numbers(alloc: Global, items: &[u64]) -> Result<NumberList, AllocError> {
     let mut numbers = NumberList::new(alloc);
     for item in items {
         numbers.push(*item)?;
@@ -25,7 +26,8 @@ fn numbers(alloc: Global, items: &[u64]) -> Result<NumberList, AllocError> {
     Ok(numbers)
 }
 
-fn words_of(alloc: Global, text: &str) -> Result<Vec<String>, AllocError> {
+/// The words of a line.
+pub fn words_of(alloc: Global, text: &str) -> Result<Vec<String>, AllocError> {
     let mut words = Vec::new(alloc);
     for word in text.split_whitespace() {
         words.push(String::from_str(alloc, word)?)?;

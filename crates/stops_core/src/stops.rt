@@ -1,6 +1,6 @@
 // Stop numbers of workers.
 ghost use Rattle.std.specs.Prelude.{◌≡◌, [], ◌∷◌, ◌++◌, OnOk, OnErr};
-ghost use Rattle.crew.specs.Stops.{stop_of};
+ghost use Rattle.stops_core.specs.Stops.{stop_of};
 
 use std::alloc::{AllocError, Global};
 use std::marker::Model;
@@ -20,7 +20,7 @@ pub struct StopList {
 
 impl Model for StopList {
     ghost use Rattle.std.specs.Prelude.{List};
-    ghost use Rattle.crew.specs.declared.stops.Stop.{Stop};
+    ghost use Rattle.stops_core.specs.declared.stops.Stop.{Stop};
 
     ghost Value = { List Stop };
 

@@ -1,6 +1,6 @@
 -- Stop numbers.
 use Rattle.std.specs.Prelude.{ℕ, Bool, false, ◌==◌, Option, Some, None, List, [], ◌∷◌, if◌then◌else◌}
-use Rattle.crew.specs.declared.stops.Stop.{Stop}
+use Rattle.stops_core.specs.declared.stops.Stop.{Stop}
 
 -- the stop number of a worker, where it has one
 abbrev pub stop_of : List Stop → ℕ → Option ℕ
