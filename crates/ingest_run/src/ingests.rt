@@ -86,11 +86,7 @@ fn finished<S: Store>(
     ensures told { (reader : ℕ) → Goes place.shard (S.history end.store) (S.history result.store) (Ends place.shard reader plan.now.appends queries.now plan.now.compactors (texts result.reply (λ text. text.items))) }
     ensures failed { result.reply ≡ Err (Outside SessionFault.Store) → IfSome (S.history result.store) EndsInFailure }
 {
-    let CrewEnd {
-        store,
-        pin,
-        ends,
-    } = end;
+    let CrewEnd { store, pin, ends } = end;
     let finish = Finish {
         place,
         moment,

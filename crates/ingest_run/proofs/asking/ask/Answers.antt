@@ -10,11 +10,11 @@ returns-in-Snapshot-clause-told g c =
     let a = g.S.Store.history c.args.port.now.store in
     let d = g.S.Store.history c.read_snapshot.new.port.store in
     subst (λ (q : FeedLine). Goes c.args.place.shard a d (Replies c.args.place.shard (number_of c.args.reader.now) (λ view. reply_to view q)
-        (λ view. view) c.read_snapshot.result)) (sym c.in-Snapshot.is) c.read_snapshot.ensures.told
+    (λ view. view) c.read_snapshot.result)) (sym c.in-Snapshot.is) c.read_snapshot.ensures.told
 
 pub returns-in-Listen-clause-told : goal.returns-in-Listen-clause-told
 returns-in-Listen-clause-told g c =
     let a = g.S.Store.history c.args.port.now.store in
     let d = g.S.Store.history c.read_listen.new.port.store in
     subst (λ (q : FeedLine). Goes c.args.place.shard a d (Replies c.args.place.shard (number_of c.args.reader.now) (λ view. reply_to view q)
-        (λ view. view) c.read_listen.result)) (sym c.in-Listen.is) c.read_listen.ensures.told
+    (λ view. view) c.read_listen.result)) (sym c.in-Listen.is) c.read_listen.ensures.told

@@ -26,7 +26,7 @@ returns-in-Ok-clause-told g c =
     let second = subst (λ (xs : List FeedAppend). Goes shard b d (Works shard n xs qs plan.compactors reply)) c.plan_of-plan.ensures.appends first in
     let third = subst (λ (k : ℕ). Goes shard b d (Works shard n feed.appends qs k reply)) c.plan_of-plan.ensures.compactors second in
     let fourth = subst (λ (ls : List FeedLine). Goes shard b d (Works shard n feed.appends ls c.args.size.compactors reply)) c.as_slice.ensures
-        third in
+    third in
     ingested shard a b d feed c.args.size.compactors c.in-Ok.reader reply
     (subst (λ (s : ShardId). Goes s a b (Begins s feed (Ok c.in-Ok.reader))) here c.in-Ok.ensures.told) fourth
 

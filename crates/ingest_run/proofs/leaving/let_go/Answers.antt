@@ -36,7 +36,7 @@ returns-clause-told g c =
     let answer = c.in_ok-_answer._answer in
     let own = closing_shard old new c.in-Ok.ensures.begins.1 ∙ c.requires.idle.shard in
     let begun = change_begun place a old new asks.CloseReader (λ m. Leave m)
-        (joined_ready place.shard place.reader a old new c.requires.idle c.in-Ok.ensures.begins.1) c.in-Ok.ensures.begins.1 in
+    (joined_ready place.shard place.reader a old new c.requires.idle c.in-Ok.ensures.begins.1) c.in-Ok.ensures.begins.1 in
     leaves_reader place.shard place.reader a d begun.0.number old.listen (Leave begun.0.number) answer
     (asked_told place a d old new old.listen asks.CloseReader (Leave begun.0.number) answer begun.0 begun.1
     (drive_answers place.shard machine place.reader (kept new) own a d answer c.in_ok-_answer.ensures.told))
