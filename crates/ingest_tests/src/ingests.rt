@@ -54,7 +54,7 @@ fn outside(fault: &SessionFault) -> Came {
     }
 }
 
-pub(crate) fn came(reply: &Result<Vec<u8>, IngestFault>) -> Came {
+pub(crate) fn what_came(reply: &Result<Vec<u8>, IngestFault>) -> Came {
     match reply {
         Ok(_) => Came::Text,
         Err(IngestFault::Outside(fault)) => outside(fault),
@@ -204,7 +204,7 @@ fn twenty_appends_are_ingested_by_any_crew(rt: HostRuntime) -> Result<(), Fail> 
         else {
             panic!(rt; "no feed")
         };
-        assert_eq!(rt; came(&end.reply), Came::Text);
+        assert_eq!(rt; what_came(&end.reply), Came::Text);
         assert_eq!(rt; text_of(&end.reply), REPLIES);
     }
     Ok(())
@@ -226,7 +226,7 @@ fn a_writer_that_makes_no_call_leaves_the_upper(rt: HostRuntime) -> Result<(), F
     let Some(end) = ingest_text_over(&rt, rt.alloc(), store, &text, workers, stop, &OpenGate) else {
         panic!(rt; "no feed")
     };
-    assert_eq!(rt; came(&end.reply), Came::Upper(Some(0)));
+    assert_eq!(rt; what_came(&end.reply), Came::Upper(Some(0)));
     Ok(())
 }
 
@@ -277,7 +277,7 @@ fn the_list_that_was_there_stands(rt: HostRuntime) -> Result<(), Fail> {
     else {
         panic!(rt; "no feed")
     };
-    assert_eq!(rt; came(&end.reply), Came::Text);
+    assert_eq!(rt; what_came(&end.reply), Came::Text);
     assert_eq!(rt; text_of(&end.reply), b"1 b\n1 z\n.\n".as_slice());
     Ok(())
 }
@@ -306,7 +306,7 @@ fn a_shard_that_does_not_suit_is_refused(rt: HostRuntime) -> Result<(), Fail> {
         let Some(end) = after(&rt, rt.alloc(), first, text)? else {
             panic!(rt; "no feed")
         };
-        assert_eq!(rt; came(&end.reply), wanted);
+        assert_eq!(rt; what_came(&end.reply), wanted);
     }
     Ok(())
 }
@@ -327,7 +327,7 @@ fn a_since_below_the_readers_own_changes_nothing(rt: HostRuntime) -> Result<(), 
         let Some(end) = ingest_text_over(&rt, rt.alloc(), store, text, ONE, None, &OpenGate) else {
             panic!(rt; "no feed")
         };
-        assert_eq!(rt; came(&end.reply), Came::Text);
+        assert_eq!(rt; what_came(&end.reply), Came::Text);
         assert_eq!(rt; text_of(&end.reply), wanted);
     }
     Ok(())
@@ -387,7 +387,7 @@ fn either_of_two_workers_may_wait(rt: HostRuntime) -> Result<(), Fail> {
             ) else {
                 panic!(rt; "no feed")
             };
-            assert_eq!(rt; came(&end.reply), Came::Text);
+            assert_eq!(rt; what_came(&end.reply), Came::Text);
             assert_eq!(rt; text_of(&end.reply), b"1 a\n.\n".as_slice());
             assert_eq!(rt; gate.ran_out.load(Ordering::SeqCst), 0);
         }

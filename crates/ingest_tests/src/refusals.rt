@@ -1,6 +1,6 @@
 // Stores that fail, or answer what isn't so.
 use crate::hollow_stores::HollowStore;
-use crate::ingests::{Came, Workers, came, ingest_text_over, text_of};
+use crate::ingests::{Came, Workers, ingest_text_over, text_of, what_came};
 use crew::OpenGate;
 use std::alloc::{AllocError, Global};
 use std::test::Fail;
@@ -37,7 +37,7 @@ fn a_store_that_keeps_nothing_is_seen(rt: HostRuntime) -> Result<(), Fail> {
     let Some(end) = ingest_text_over(&rt, rt.alloc(), store, FEED, ONE, None, &OpenGate) else {
         panic!(rt; "no feed")
     };
-    assert_eq!(rt; came(&end.reply), Came::Damaged);
+    assert_eq!(rt; what_came(&end.reply), Came::Damaged);
     let store = hollow(rt.alloc(), Some(&PART))?;
     let Some(end) = ingest_text_over(&rt, rt.alloc(), store, FEED, ONE, None, &OpenGate) else {
         panic!(rt; "no feed")
@@ -70,7 +70,7 @@ fn each_call_may_fail(rt: HostRuntime) -> Result<(), Fail> {
             else {
                 panic!(rt; "no feed")
             };
-            match came(&end.reply) {
+            match what_came(&end.reply) {
                 Came::Text => {
                     assert_eq!(rt; text_of(&end.reply), b"1 x\n.\n".as_slice());
                     whole = whole.saturating_add(1);
