@@ -75,6 +75,11 @@ pub verdict_inside : (ends : List WorkerEnd) (fault : IngestFault) (f : SessionF
     fault ≡ faults.Outside f → ⊥
 verdict_inside ends fault f is same = subst IsOfCrew same (of_verdict ends fault is)
 
+-- nor an upper
+pub verdict_no_upper : (ends : List WorkerEnd) (fault : IngestFault) (u : Option ℕ) → crew_verdict ends ≡ Err fault →
+    fault ≡ faults.Upper u → ⊥
+verdict_no_upper ends fault u is same = subst IsOfCrew same (of_verdict ends fault is)
+
 module _ (shard : ShardId) where
   -- ---- merges and collections
 

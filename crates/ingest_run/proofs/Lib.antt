@@ -10,3 +10,4 @@ mod FinishLaws
 mod WorkLaws
 mod IngestLaws
 mod IdleReaders
+mod HaltLaws

@@ -4,3 +4,4 @@ pub mod Bounds
 pub mod Verdicts
 pub mod PlainIngests
 pub mod Ends
+pub mod Halts

@@ -6,6 +6,7 @@ ghost use Rattle.appends_core.specs.Feeds.{IsFeed};
 ghost use Rattle.plain_run.specs.Answering.{ReaderReady, number_of};
 ghost use Rattle.ingest_run.specs.declared.faults.IngestFault.TheVariants.{Outside};
 ghost use Rattle.ingest_run.specs.Ends.{Advances, Begins, Joins};
+ghost use Rattle.ingest_run.specs.Halts.{NoUpper};
 
 use crate::bounds::suits;
 use crate::faults::IngestFault;
@@ -69,6 +70,8 @@ pub(crate) fn begin<S: Store>(
 ) -> Result<Reader, IngestFault>
     requires feed { IsFeed feed.now.appends }
     ensures told { Goes place.shard (S.history port.old.store) (S.history port.new.store) (Begins place.shard feed.now result) }
+    ensures by { OnOk result (GrowsBy place.reader (S.history port.old.store) (S.history port.new.store)) }
+    ensures unfit { NoUpper result }
     ensures ready { IfOk result (ReaderReady place.shard place.reader (S.history port.new.store)) }
     ensures failed { result ≡ Err (Outside SessionFault.Store) → StoreFailed (S.history port.new.store) (S.faults port.old.store) (S.faults port.new.store) }
     ensures later { S.faults port.old.store ≤ S.faults port.new.store }

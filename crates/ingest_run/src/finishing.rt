@@ -9,6 +9,7 @@ ghost use Rattle.ingest_run.specs.declared.faults.IngestFault.TheVariants.{Outsi
 ghost use Rattle.crew.specs.Pinning.{IsPinOf};
 ghost use Rattle.ingest_run.specs.Idling.{IsIdle};
 ghost use Rattle.ingest_run.specs.Ends.{Answers, Finishes, Reports, SeesEnd, SettlesBy};
+ghost use Rattle.ingest_run.specs.Halts.{EndsShort};
 
 use crate::asking::ask_all;
 use crate::bounds::{end_of, is_same};
@@ -137,6 +138,7 @@ impl Finish {
     ) -> Result<(), IngestFault>
         ensures told { (reader : ℕ) → Goes self.now.place.shard (S.history port.old.store) (S.history port.new.store) (SeesEnd self.now.place.shard reader appends.now result) }
         ensures by { OnOk result (GrowsBy self.now.place.reader (S.history port.old.store) (S.history port.new.store)) }
+        ensures short { EndsShort self.now.place.reader writers ends.now result (S.history port.old.store) (S.history port.new.store) }
         ensures failed { result ≡ Err (Outside SessionFault.Store) → StoreFailed (S.history port.new.store) (S.faults port.old.store) (S.faults port.new.store) }
         ensures later { S.faults port.old.store ≤ S.faults port.new.store }
     {
@@ -164,6 +166,7 @@ impl Finish {
         requires pin { IsPinOf self.now.place.shard self.now.place.reader (S.history port.old.store) pin }
         requires queries { AllByRecursion IsQuery queries.now }
         ensures told { (reader : ℕ) → Goes self.now.place.shard (S.history port.old.store) (S.history port.new.store) (Finishes self.now.place.shard reader appends.now queries.now self.now.compactors text.old.items text.new.items result) }
+        ensures short { EndsShort self.now.place.reader writers ends.now result (S.history port.old.store) (S.history port.new.store) }
         ensures failed { result ≡ Err (Outside SessionFault.Store) → StoreFailed (S.history port.new.store) (S.faults port.old.store) (S.faults port.new.store) }
         ensures later { S.faults port.old.store ≤ S.faults port.new.store }
     {

@@ -10,6 +10,7 @@ ghost use Rattle.plain_run.specs.Answering.{ReaderReady, number_of};
 ghost use Rattle.crew.specs.Pinning.{IsPinOf};
 ghost use Rattle.crew.specs.Plans.{workers_of};
 ghost use Rattle.ingest_run.specs.Ends.{Ends, Ingests, Works, texts};
+ghost use Rattle.ingest_run.specs.Halts.{EndsShort, HaltsShort};
 
 use crate::beginning::begin;
 use crate::faults::IngestFault;
@@ -53,6 +54,8 @@ fn plan_of(shard: ShardId, appends: AppendList, size: CrewSize) -> Plan
     ensures shard { result.shard ≡ shard }
     ensures appends { result.appends ≡ appends }
     ensures workers { workers_of result ≡ size.writers + size.compactors + size.collectors }
+    ensures writers { result.writers ≡ size.writers }
+    ensures stops { result.stops ≡ size.stops }
     ensures compactors { result.compactors ≡ size.compactors }
 {
     let CrewSize {
@@ -84,6 +87,7 @@ fn finished<S: Store>(
     requires pin { IsPinOf place.shard 0 (S.history end.store) end.pin }
     requires queries { AllByRecursion IsQuery queries.now }
     ensures told { (reader : ℕ) → Goes place.shard (S.history end.store) (S.history result.store) (Ends place.shard reader plan.now.appends queries.now plan.now.compactors (texts result.reply (λ text. text.items))) }
+    ensures short { EndsShort 0 plan.now.writers end.ends result.reply (S.history end.store) (S.history result.store) }
     ensures failed { result.reply ≡ Err (Outside SessionFault.Store) → IfSome (S.history result.store) EndsInFailure }
 {
     let CrewEnd { store, pin, ends } = end;
@@ -137,6 +141,7 @@ fn worked<S: Store + Send, G: Gate + Sync, R: Threads + Wait + Sync>(
     requires few { workers_of plan.now ≤ 64 }
     requires queries { AllByRecursion IsQuery queries.now }
     ensures told { Goes place.shard (S.history store) (S.history result.store) (Works place.shard (number_of reader) plan.now.appends queries.now plan.now.compactors (texts result.reply (λ text. text.items))) }
+    ensures halted { HaltsShort plan.now.writers plan.now.stops result.reply (S.history store) (S.history result.store) }
     ensures failed { result.reply ≡ Err (Outside SessionFault.Store) → IfSome (S.history result.store) EndsInFailure }
 {
     complete_is_plain();
@@ -167,6 +172,7 @@ pub fn ingest<S: Store + Send, G: Gate + Sync, R: Threads + Wait + Sync>(
     requires queries { AllByRecursion IsQuery feed.queries }
     requires few { size.writers + size.compactors + size.collectors ≤ 64 }
     ensures told { Goes shard (S.history store) (S.history result.store) (Ingests shard feed size.compactors (texts result.reply (λ text. text.items))) }
+    ensures halted { HaltsShort size.writers size.stops result.reply (S.history store) (S.history result.store) }
     ensures failed { result.reply ≡ Err (Outside SessionFault.Store) → IfSome (S.history result.store) EndsInFailure }
 {
     let place = place_of(shard);

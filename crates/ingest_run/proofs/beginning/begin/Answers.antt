@@ -3,6 +3,7 @@ use Rattle.std.proofs.lemmas.Result.{err_from_is_err_and}
 use Rattle.update_core.specs.declared.appends.FeedAppend.{FeedAppend}
 use Rattle.std.proofs.Common.{List}
 use Rattle.driving.specs.Goings.{Goes}
+use Rattle.driving.proofs.GoingLaws.{grows_more}
 use Rattle.ingest_run.specs.declared.faults.IngestFault.{IngestFault}
 use Rattle.ingest_run.specs.Bounds.{SuitsFeed, Unsuited}
 use Rattle.ingest_run.specs.Ends.{Begins}
@@ -48,3 +49,8 @@ returns-clause-told g c =
     let d = g.S.Store.history c.join.new.port.store in
     let suits = subst (λ (appends : List FeedAppend). SuitsFeed appends c.in_ok-extent.extent) c.as_slice.ensures c.in_ok-suits.ensures.ok in
     begun shard a b d c.args.feed.now c.in_ok-extent.extent c.in_ok-reader.reader suits c.in_ok-extent.ensures.told c.in_ok-reader.ensures.told
+
+pub returns-clause-by : goal.returns-clause-by
+returns-clause-by g c =
+    grows_more c.args.place.reader (g.S.Store.history c.args.port.now.store) (g.S.Store.history c.look_at.new.port.store)
+    (g.S.Store.history c.join.new.port.store) c.in_ok-extent.ensures.by c.in_ok-reader.ensures.by

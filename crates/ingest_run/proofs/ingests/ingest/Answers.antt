@@ -2,9 +2,12 @@ use Rattle.std.proofs.Common.{Ok, Err, List, ℕ, subst}
 use Rattle.store_core.specs.declared.shards.ShardId.{ShardId}
 use Rattle.update_core.specs.declared.appends.FeedAppend.{FeedAppend}
 use Rattle.feed_text.specs.declared.feed_lines.FeedLine.{FeedLine}
-use Rattle.driving.specs.Goings.{Goes}
+use Rattle.driving.specs.Goings.{Goes, GrowsBy}
+use Rattle.stops_core.specs.declared.stops.Stop.{Stop}
 use Rattle.plain_run.specs.Answering.{number_of}
 use Rattle.ingest_run.specs.Ends.{Begins, Works, texts}
+use Rattle.ingest_run.specs.Halts.{WritersHalted}
+use Rattle.ingest_run.proofs.HaltLaws.{halted_sooner}
 use Rattle.ingest_run.proofs.IngestLaws.{ingested, ingested_not}
 use Rattle.ingest_run.proofs.ingests.ingest.Goals as goal
 
@@ -37,3 +40,14 @@ returns-in-Err-clause-told g c =
     let fault = c.in-Err.fault in
     ingested_not c.args.shard a b b c.args.feed c.args.size.compactors fault
     (subst (λ (s : ShardId). Goes s a b (Begins s c.args.feed (Err fault))) c.place_of-place.ensures.shard c.in-Err.ensures.told)
+
+pub returns-in-Ok-clause-halted : goal.returns-in-Ok-clause-halted
+returns-in-Ok-clause-halted g c = λ upper is.
+    let a = g.S.Store.history c.args.store in
+    let b = g.S.Store.history c.begin-begun.new.port.store in
+    let d = g.S.Store.history c.worked.result.store in
+    let size = c.args.size in
+    let first = c.worked.ensures.halted upper is in
+    let second = subst (λ (n : ℕ). WritersHalted n c.plan_of-plan.result.stops b d) c.plan_of-plan.ensures.writers first in
+    let third = subst (λ (stops : List Stop). WritersHalted size.writers stops b d) c.plan_of-plan.ensures.stops second in
+    halted_sooner size.writers size.stops a b d (subst (λ (n : ℕ). GrowsBy n a b) c.place_of-place.ensures.reader c.in-Ok.ensures.by) third

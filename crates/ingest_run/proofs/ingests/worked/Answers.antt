@@ -6,6 +6,7 @@ use Rattle.ingest_run.specs.declared.faults.IngestFault.TheVariants as faults
 use Rattle.ingest_run.specs.Ends.{Ends, Works, texts}
 use Rattle.ingest_run.proofs.CrewGoes.{crew_goes}
 use Rattle.ingest_run.proofs.IdleReaders.{pin_after, pin_of}
+use Rattle.ingest_run.proofs.HaltLaws.{crew_halts_short, enough_ends}
 use Rattle.ingest_run.proofs.WorkLaws.{works, works_not}
 use Rattle.ingest_run.proofs.ingests.worked.Goals as goal
 
@@ -46,3 +47,10 @@ returns-in-Err-clause-told g c =
     subst (λ store. Goes c.args.place.shard a (g.S.Store.history store) (Works c.args.place.shard n plan.appends qs m (Err faults.Memory)))
     (sym c.in-Err.ensures.memory.0)
     (subst (λ (s : ShardId). Goes s a a (Works s n plan.appends qs m (Err faults.Memory))) c.requires.here (works_not plan n a qs m))
+
+pub returns-in-Ok-clause-halted : goal.returns-in-Ok-clause-halted
+returns-in-Ok-clause-halted g c =
+    let plan = c.args.plan.now in
+    let es = c.in-Ok.end.ends in
+    crew_halts_short plan (g.S.Store.history c.args.store) (g.S.Store.history c.in-Ok.end.store) (g.S.Store.history c.finished.result.store) es
+    c.finished.result.reply c.in-Ok.ensures.ran c.in-Ok.ensures.ends (enough_ends plan es c.in-Ok.ensures.workers) c.finished.ensures.short

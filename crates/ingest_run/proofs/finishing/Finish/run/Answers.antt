@@ -6,7 +6,7 @@ use Rattle.ingest_run.specs.declared.faults.IngestFault.{IngestFault}
 use Rattle.ingest_run.specs.Ends.{Finishes, SeesEnd}
 use Rattle.ingest_run.specs.declared.faults.IngestFault.TheVariants as faults
 use Rattle.plain_run.specs.declared.session_faults.SessionFault.TheVariants as outside
-use Rattle.ingest_run.proofs.FinishLaws.{err_is, finished_all, finished_not, finished_unjoined, resumed, verdict_ends, verdict_inside}
+use Rattle.ingest_run.proofs.FinishLaws.{err_is, finished_all, finished_not, finished_unjoined, resumed, verdict_ends, verdict_inside, verdict_no_upper}
 use Rattle.ingest_run.proofs.IdleReaders.{kept_idle, some_idle_past}
 use Rattle.ingest_run.proofs.finishing.Finish.run.Goals as goal
 
@@ -91,3 +91,9 @@ returns-clause-told g c = λ reader.
     c.args.queries.now c.args.text.now.items c.report.new.text.items c.requires.queries
     (resumed shard a b d reader appends c.in_ok-reader.reader (c.in_ok-see_end.ensures.told reader) c.in_ok-reader.ensures.told)
     c.in_ok-report.ensures.told
+
+pub returns-in_err-crew_verdict-clause-short : goal.returns-in_err-crew_verdict-clause-short
+returns-in_err-crew_verdict-clause-short g c = λ upper is.
+    let p = err_from_is_err_and c.from_residual.result c.from_residual.ensures.1 in
+    absurd (verdict_no_upper c.args.ends.now c.in_err-crew_verdict.field-0.0 upper (sym c.crew_verdict.ensures ∙ c.in_err-crew_verdict.was)
+    (sym p.2 ∙ err_is p.0 (faults.Upper upper) (sym p.1 ∙ is)))
