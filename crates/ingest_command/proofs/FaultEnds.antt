@@ -13,9 +13,11 @@ use Rattle.ingest_text.specs.Feeds.{Spells}
 use Rattle.plain_run.specs.declared.session_faults.SessionFault.TheVariants as sessions
 use Rattle.ingest_run.specs.declared.faults.IngestFault.{IngestFault}
 use Rattle.ingest_run.specs.declared.faults.IngestFault.TheVariants as faults
+use Rattle.ingest_run.specs.declared.sizes.CrewSize.{CrewSize}
 use Rattle.ingest_run.specs.Ends.{Ingests, texts}
+use Rattle.ingest_run.specs.Halts.{HaltsShort}
 use Rattle.ingest_command.specs.declared.endings.IngestEnding.{IngestEnding}
-use Rattle.ingest_command.specs.Endings.{FoundFull, FoundSpent, Replies, Saying, TakesFirst}
+use Rattle.ingest_command.specs.Endings.{FoundFull, FoundSpent, IsTold, IsToldReply, Replies, Writes, Saying, TakesFirst}
 use Rattle.ingest_command.specs.Faults.{ending_of}
 
 module _ (shard : ShardId) (compactors : ℕ) (text : List ℕ) (feed : IngestFeed) (spells : Spells feed text) (told now : Option History) where
@@ -62,3 +64,40 @@ module _ (shard : ShardId) (compactors : ℕ) (text : List ℕ) (feed : IngestFe
       subst (λ (e : IngestEnding). Replies shard compactors text (Err e) told now) (sym ends)
       (ends_by fault (subst (λ (r : Result V IngestFault). Goes shard told now (Ingests shard feed compactors (texts r items))) is went)
       (λ same. failed (is ∙ ap (λ (f : IngestFault). Err f) same)))
+
+-- ---- an upper
+
+abbrev the_fault : IngestFault → Result Unit IngestFault
+the_fault fault = Err fault
+
+err_of : (e f : IngestFault) → the_fault e ≡ the_fault f → e ≡ f
+err_of e f h = cc
+
+module _ (size : CrewSize) (told now : Option History) where
+  halted_by : (fault : IngestFault) → HaltsShort size.writers size.stops (the_fault fault) told now → IsTold size (ending_of fault) told now
+  halted_by (faults.Outside sessions.Memory) short = tt
+  halted_by (faults.Outside sessions.Store) short = tt
+  halted_by (faults.Outside sessions.Damaged) short = tt
+  halted_by (faults.Outside sessions.MembersFull) short = tt
+  halted_by (faults.Outside sessions.Spent) short = tt
+  halted_by faults.Memory short = tt
+  halted_by faults.Damaged short = tt
+  halted_by faults.Spent short = tt
+  halted_by faults.MembersFull short = tt
+  halted_by (faults.Upper upper) short = short upper refl
+  halted_by (faults.Misfit upper) short = tt
+  halted_by (faults.Heavy weight) short = tt
+
+  -- is told only where each writer was halted
+  pub told_halted : {V : Type 0} → (reply : Result V IngestFault) (fault : IngestFault) (ending : IngestEnding) → reply ≡ Err fault →
+      ending ≡ ending_of fault → HaltsShort size.writers size.stops reply told now → IsTold size ending told now
+  told_halted {V} reply fault ending is ends short =
+      subst (λ (e : IngestEnding). IsTold size e told now) (sym ends)
+      (halted_by fault (λ upper same. short upper (is ∙ ap (λ (f : IngestFault). Err f) (err_of fault (faults.Upper upper) same))))
+
+  -- and what is written of the replies tells no other
+  pub told_in_end : {V : Type 0} → (reply : Result V IngestEnding) (ending : IngestEnding) (bytes : V → List ℕ) (taken taken_now : Option (List ℕ)) (puts puts_now : ℕ) →
+      Writes (texts reply bytes) ending taken taken_now puts puts_now → IsToldReply size reply told now → IsTold size ending told now
+  told_in_end (Ok text) ending bytes taken taken_now puts puts_now (inl (is, more)) r = subst (λ (e : IngestEnding). IsTold size e told now) (sym is) tt
+  told_in_end (Ok text) ending bytes taken taken_now puts puts_now (inr (is, more)) r = subst (λ (e : IngestEnding). IsTold size e told now) (sym is) tt
+  told_in_end (Err fault) ending bytes taken taken_now puts puts_now (is, more) r = subst (λ (e : IngestEnding). IsTold size e told now) (sym is) r

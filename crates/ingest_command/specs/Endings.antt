@@ -21,7 +21,9 @@ use Rattle.plain_run.specs.Sessions.{StartsAt}
 use Rattle.plain_run.specs.Settling.{IsSettledIn}
 use Rattle.ingest_run.specs.declared.faults.IngestFault.{IngestFault}
 use Rattle.ingest_run.specs.declared.faults.IngestFault.TheVariants as faults
+use Rattle.ingest_run.specs.declared.sizes.CrewSize.{CrewSize}
 use Rattle.ingest_run.specs.Ends.{Ingests, Takes, TakesSome, TakesUpTo, Unfit}
+use Rattle.ingest_run.specs.Halts.{WritersHalted}
 use Rattle.ingest_run.specs.PlainIngests.{plain_ingest}
 use Rattle.ingest_command.specs.declared.endings.IngestEnding.{IngestEnding}
 use Rattle.ingest_command.specs.declared.endings.IngestEnding.TheVariants as ends
@@ -140,3 +142,12 @@ Spares _ store store_now = ⊤
 abbrev pub SparesReply : {S V : Type 0} → Result V IngestEnding → S → S → Type 0
 SparesReply (Ok bytes) store store_now = ⊤
 SparesReply (Err ending) store store_now = Spares ending store store_now
+
+-- an upper is told only where each writer was halted
+abbrev pub IsTold : CrewSize → IngestEnding → Option History → Option History → Type 0
+IsTold size (ends.Upper upper) told told_now = WritersHalted size.writers size.stops told told_now
+IsTold size _ told told_now = ⊤
+
+abbrev pub IsToldReply : {V : Type 0} → CrewSize → Result V IngestEnding → Option History → Option History → Type 0
+IsToldReply size (Ok text) told told_now = ⊤
+IsToldReply size (Err ending) told told_now = IsTold size ending told told_now

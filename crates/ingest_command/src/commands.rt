@@ -4,7 +4,7 @@ ghost use Rattle.feed_text.specs.declared.limits.TheConstants.{MAX_BYTES};
 ghost use Rattle.feed_text.specs.Streams.{ReadsUpTo};
 ghost use Rattle.plain_run.specs.Endings.{StaysLawful};
 ghost use Rattle.ingest_run.specs.Ends.{texts};
-ghost use Rattle.ingest_command.specs.Endings.{EndsIngest, Replies, Spares, SparesReply, Writes};
+ghost use Rattle.ingest_command.specs.Endings.{EndsIngest, IsTold, IsToldReply, Replies, Spares, SparesReply, Writes};
 
 use crate::endings::{IngestEnding, ending_of};
 use crew::Gate;
@@ -44,6 +44,7 @@ fn answer_text<S: Store + Send, G: Gate + Sync, R: Threads + Wait + Sync>(
 ) -> Replied<S>
     requires few { size.writers + size.compactors + size.collectors ≤ 64 }
     ensures replies { Replies shard size.compactors text.now (texts result.reply (λ text. text.items)) (S.history store) (S.history result.store) }
+    ensures halted { IsToldReply size result.reply (S.history store) (S.history result.store) }
     ensures lawful { StaysLawful shard (S.history store) (S.history result.store) }
     ensures spares { SparesReply result.reply store result.store }
 {
@@ -104,6 +105,7 @@ pub fn run_ingest<So: Source, Si: Sink, S: Store + Send, G: Gate + Sync, R: Thre
     requires few { size.writers + size.compactors + size.collectors ≤ 64 }
     ensures ends { EndsIngest shard size.compactors result.ending (S.history store) (S.history result.store) (So.left source.old) (So.left source.new)
         (So.faults source.old) (So.faults source.new) (Si.taken out.old) (Si.taken out.new) (Si.faults out.old) (Si.faults out.new) }
+    ensures halted { IsTold size result.ending (S.history store) (S.history result.store) }
     ensures reading { ReadsUpTo (MAX_BYTES + 1) (So.left source.old) (So.left source.new) (So.reads source.old) (So.reads source.new) }
     ensures lawful { StaysLawful shard (S.history store) (S.history result.store) }
     ensures spares { Spares result.ending store result.store }

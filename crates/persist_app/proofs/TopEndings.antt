@@ -14,7 +14,7 @@ use Rattle.plain_run.specs.Endings.{StaysLawful}
 use Rattle.plain_run.proofs.RunLaws.{rests_lawful}
 use Rattle.ingest_command.specs.declared.endings.IngestEnding.{IngestEnding}
 use Rattle.ingest_command.specs.declared.endings.IngestEnding.TheVariants as ends
-use Rattle.ingest_command.specs.Endings.{Completes, EndsIngest, FeedGoes, Spares}
+use Rattle.ingest_command.specs.Endings.{Completes, EndsIngest, FeedGoes, IsTold, Spares}
 use Rattle.persist_app.specs.declared.crew_words.CrewWords.{CrewWords}
 use Rattle.persist_app.specs.Endings.{EndsWith, Finishes, IsStatus, damaged_text, input_failed_text, members_full_text, memory_text}
 use Rattle.persist_app.specs.Endings.{spent_text, store_failed_text}
@@ -107,13 +107,14 @@ module _ (crew : CrewWords) (told told_now : Option History) (left left_now : Op
   ends_with wanted line ending (inr (inr (five, rose))) so = no_put five rose
 
   -- what has become of it is told by what it came to and by its last line
-  pub crew_ends : (ending : IngestEnding) → Ended ending → FinishesIngest ending status between taken_now puts_mid puts_now → Says
-  crew_ends (ends.AsRun e) ended f = as_run e ended f
-  crew_ends (ends.Upper upper) (goes, same) f =
-      ends_with 7 (upper_text upper) (ends.Upper upper) f (λ is gained. (is, goes, gains (upper_text upper) same gained))
-  crew_ends (ends.Misfit upper) (goes, same) f =
+  pub crew_ends : (ending : IngestEnding) → Ended ending → IsTold crew.size ending told told_now →
+      FinishesIngest ending status between taken_now puts_mid puts_now → Says
+  crew_ends (ends.AsRun e) ended halted f = as_run e ended f
+  crew_ends (ends.Upper upper) (goes, same) halted f =
+      ends_with 7 (upper_text upper) (ends.Upper upper) f (λ is gained. (is, goes, halted, gains (upper_text upper) same gained))
+  crew_ends (ends.Misfit upper) (goes, same) halted f =
       ends_with 12 (misfit_text upper) (ends.Misfit upper) f (λ is gained. (is, goes, gains (misfit_text upper) same gained))
-  crew_ends (ends.Heavy weight) (goes, same) f =
+  crew_ends (ends.Heavy weight) (goes, same) halted f =
       ends_with 12 (heavy_text weight) (ends.Heavy weight) f (λ is gained. (is, goes, gains (heavy_text weight) same gained))
 
 -- ---- what is spared

@@ -14,6 +14,7 @@ use Rattle.command_words.specs.declared.commands.CommandWords.TheVariants as com
 use Rattle.plain_run.specs.declared.endings.Ending.TheVariants as endings
 use Rattle.plain_run.specs.Endings.{StaysLawful}
 use Rattle.ingest_run.specs.declared.faults.IngestFault.TheVariants as faults
+use Rattle.ingest_run.specs.Halts.{WritersHalted}
 use Rattle.ingest_command.specs.declared.endings.IngestEnding.{IngestEnding}
 use Rattle.ingest_command.specs.declared.endings.IngestEnding.TheVariants as ends
 use Rattle.ingest_command.specs.Endings.{Completes, EndsShort, FeedGoes, FoundFull, FoundSpent, IsUnfit, ReadsIngest, TakesFirst}
@@ -79,7 +80,8 @@ module _ (crew : CrewWords) (told told_now : Option History) (left left_now : Op
   CrewSays (ends.AsRun endings.Spent) status =
       (status ≡ 11) × FeedGoes crew.shard told told_now left left_now (FoundSpent crew.shard) × Gains taken taken_now spent_text
   CrewSays (ends.Upper upper) status =
-      (status ≡ 7) × FeedGoes crew.shard told told_now left left_now (EndsShort crew.shard upper) × Gains taken taken_now (upper_text upper)
+      (status ≡ 7) × FeedGoes crew.shard told told_now left left_now (EndsShort crew.shard upper)
+      × WritersHalted crew.size.writers crew.size.stops told told_now × Gains taken taken_now (upper_text upper)
   CrewSays (ends.Misfit upper) status =
       (status ≡ 12) × FeedGoes crew.shard told told_now left left_now (IsUnfit crew.shard (faults.Misfit upper))
       × Gains taken taken_now (misfit_text upper)

@@ -6,10 +6,6 @@ mod deaf_stores;
 #[cfg(test)]
 mod disks;
 #[cfg(test)]
-mod hollow_stores;
-#[cfg(test)]
-mod ingests;
-#[cfg(test)]
 mod programs;
 #[cfg(test)]
 mod schedules;

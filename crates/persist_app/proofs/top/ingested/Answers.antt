@@ -15,4 +15,4 @@ returns-clause-ends g c =
     crew_ends c.args.crew (g.S.Store.history c.args.store) (g.S.Store.history c.run_ingest-store.result.store) (left src) (left src_now)
     (reads src) (reads src_now) (taken out) (taken out_mid) (taken out_now) (puts out) (puts out_mid) (puts out_now)
     c.finish_ingest-status.result c.run_ingest-store.ensures.later c.run_ingest-store.result.ending c.run_ingest-store.ensures.ends
-    c.finish_ingest-status.ensures
+    c.run_ingest-store.ensures.halted c.finish_ingest-status.ensures
