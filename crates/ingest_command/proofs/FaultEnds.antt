@@ -95,9 +95,13 @@ module _ (size : CrewSize) (told now : Option History) where
       subst (λ (e : IngestEnding). IsTold size e told now) (sym ends)
       (halted_by fault (λ upper same. short upper (is ∙ ap (λ (f : IngestFault). Err f) (err_of fault (faults.Upper upper) same))))
 
+  abbrev Tells : IngestEnding → Type 0
+  Tells ending = IsTold size ending told now
+
   -- and what is written of the replies tells no other
-  pub told_in_end : {V : Type 0} → (reply : Result V IngestEnding) (ending : IngestEnding) (bytes : V → List ℕ) (taken taken_now : Option (List ℕ)) (puts puts_now : ℕ) →
-      Writes (texts reply bytes) ending taken taken_now puts puts_now → IsToldReply size reply told now → IsTold size ending told now
-  told_in_end (Ok text) ending bytes taken taken_now puts puts_now (inl (is, more)) r = subst (λ (e : IngestEnding). IsTold size e told now) (sym is) tt
-  told_in_end (Ok text) ending bytes taken taken_now puts puts_now (inr (is, more)) r = subst (λ (e : IngestEnding). IsTold size e told now) (sym is) tt
-  told_in_end (Err fault) ending bytes taken taken_now puts puts_now (is, more) r = subst (λ (e : IngestEnding). IsTold size e told now) (sym is) r
+  pub told_in_end : {V : Type 0} → (reply : Result V IngestEnding) (ending : IngestEnding) (bytes : V → List ℕ)
+      (taken taken_now : Option (List ℕ)) (puts puts_now : ℕ) → Writes (texts reply bytes) ending taken taken_now puts puts_now →
+      IsToldReply size reply told now → Tells ending
+  told_in_end (Ok text) ending bytes taken taken_now puts puts_now (inl (is, more)) r = subst Tells (sym is) tt
+  told_in_end (Ok text) ending bytes taken taken_now puts puts_now (inr (is, more)) r = subst Tells (sym is) tt
+  told_in_end (Err fault) ending bytes taken taken_now puts puts_now (is, more) r = subst Tells (sym is) r
