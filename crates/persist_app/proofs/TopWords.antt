@@ -5,7 +5,6 @@ use Rattle.command_words.specs.declared.commands.CommandWords.{CommandWords}
 use Rattle.command_words.specs.declared.commands.CommandWords.TheVariants as commands
 use Rattle.command_words.specs.Commands.{IsCommand}
 use Rattle.command_words.proofs.OneMeaning.{one_meaning}
-use Rattle.ingest_run.specs.declared.sizes.CrewSize.{CrewSize}
 use Rattle.persist_app.specs.declared.crew_words.CrewWords.{CrewWords}
 use Rattle.persist_app.specs.Endings.{NoCommand}
 use Rattle.persist_app.specs.TopEnds.{NamesCrew, NoCrew}

@@ -1,4 +1,4 @@
-use Rattle.std.proofs.Common.{Ok, Option, Some, List, ℕ, ap, map, string_bytes, subst, ◌∙◌}
+use Rattle.std.proofs.Common.{Ok, Option, List, ℕ, ap, map, string_bytes, subst, ◌∙◌}
 use Rattle.std.specs.Prelude.{IfSome}
 use Rattle.persist_app.specs.declared.crew_words.CrewWords.{CrewWords}
 use Rattle.persist_app.specs.TopEnds.{NamesCrew, NoCrew}
