@@ -40,20 +40,20 @@ use Rattle.std.proofs.lemmas.List.{append_cancel_left}
 use Rattle.turnstile.specs.declared.passes.Pass.{Pass}
 use Rattle.turnstile.specs.Passes.{IsPassOf, first_value, view}
 use Rattle.shared_store.specs.Passes.{told_of}
-use Rattle.crew.specs.declared.ends.WorkerEnd.{WorkerEnd}
-use Rattle.crew.specs.declared.ends.WorkerEnd.TheVariants as ends
-use Rattle.crew.specs.Ends.{CollectorMeans, CompactorMeans, EndMeans, FollowerMeans, HasFollowed, HasMerged, IsAnswered, IsMergeAnswered}
-use Rattle.crew.specs.Ends.{IsReadAnswered, Once, PinMeans, UpperIs, WasCollected, WriterMeans}
-use Rattle.crew.specs.Looping.{EndCounts}
+use Rattle.crew_workers.specs.declared.ends.WorkerEnd.{WorkerEnd}
+use Rattle.crew_workers.specs.declared.ends.WorkerEnd.TheVariants as ends
+use Rattle.crew_workers.specs.Ends.{CollectorMeans, CompactorMeans, EndMeans, FollowerMeans, HasFollowed, HasMerged, IsAnswered, IsMergeAnswered}
+use Rattle.crew_workers.specs.Ends.{IsReadAnswered, Once, PinMeans, UpperIs, WasCollected, WriterMeans}
+use Rattle.crew_workers.specs.Looping.{EndCounts}
 use Rattle.crew.specs.declared.seats.Seat.{Seat}
 use Rattle.crew.specs.Crews.{CrewRan, CrewRanOn}
-use Rattle.crew.specs.Posts.{opened}
+use Rattle.crew_workers.specs.Posts.{opened}
 use Rattle.crew.specs.Seats.{AllEndAs, CountsAs, EndsAs, EndsOn, HasNumber, HasWorked, IsPrefixOf, KinKeeps, NumberedFrom}
 use Rattle.crew.specs.Seats.{IsAlone, PlacedFrom, SeenSame, Suits, Shows, next_number, own_number, ShowsSeat, Works, ends_of, share_in, shares_of}
 use Rattle.crew.specs.declared.plans.Plan.{Plan}
 use Rattle.crew.specs.Plans.{client_of, job_in, job_of, role_in}
-use Rattle.crew.proofs.MeansGrown.{means_grown}
-use Rattle.crew.proofs.PortKeeping.{front_is, some_is}
+use Rattle.crew_workers.proofs.MeansGrown.{means_grown}
+use Rattle.crew_workers.proofs.PortKeeping.{front_is, some_is}
 use Rattle.crew.proofs.Numbers.{is_client, is_next, next_of}
 use Rattle.crew.proofs.Seating.{kin_as, none_kept, one_some, rest_of_others}
 

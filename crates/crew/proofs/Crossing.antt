@@ -12,7 +12,7 @@ use Rattle.shared_store.proofs.Crossing.{counted_send}
 use Rattle.std.proofs.option.Option.TheSendSync as options
 use Rattle.crew.specs.contracts.seats.Seat as seat
 use Rattle.crew_core.proofs.jobs.Job.TheSendSync as jobs
-use Rattle.crew.proofs.ends.WorkerEnd.TheSendSync as ends
+use Rattle.crew_workers.proofs.ends.WorkerEnd.TheSendSync as ends
 use Rattle.read_client.specs.contracts.readers.Reader as reader
 use Rattle.read_client.proofs.readers.Reader.TheSendSync as readers
 

@@ -27,18 +27,18 @@ use Rattle.read_client.specs.Machining.{machine}
 use Rattle.read_client.proofs.Machining.{keeps}
 use Rattle.crew_core.specs.Working.{is_pin}
 use Rattle.crew_core.proofs.Keeping.{entries_joined}
-use Rattle.crew.specs.declared.ends.WorkerEnd.{WorkerEnd}
+use Rattle.crew_workers.specs.declared.ends.WorkerEnd.{WorkerEnd}
 use Rattle.crew.specs.declared.plans.Plan.{Plan}
 use Rattle.crew.specs.declared.seats.Seat.{Seat}
 use Rattle.crew.specs.Crews.{IsEndOf, LeavesPin}
 use Rattle.crew.specs.Plans.{client_of, first_of, job_of, workers_of}
-use Rattle.crew.specs.Pinning.{IsPinLeft, IsPinOf}
-use Rattle.crew.specs.Posts.{opened}
+use Rattle.crew_workers.specs.Pinning.{IsPinLeft, IsPinOf}
+use Rattle.crew_workers.specs.Posts.{opened}
 use Rattle.crew.specs.Seats.{HasNumber, HasPin, HasWorked, HaveNone, IsPrefixOf, IsReadySeat, IsSeated, NoPin, NumberedFrom}
 use Rattle.crew.specs.Seats.{PinsIdle, PinsLeft, PlacedFrom, Shows, ShowsSeat, Works, ends_of, pins_of}
 use Rattle.crew.proofs.CrewEnds.{front_none}
 use Rattle.crew.proofs.Numbers.{client_first, is_client, is_next, next_of, no_pin, pin_at, pin_job}
-use Rattle.crew.proofs.PortKeeping.{front_is}
+use Rattle.crew_workers.proofs.PortKeeping.{front_is}
 use Rattle.crew.proofs.Seating.{rest_of_others}
 
 -- ---- handing it in

@@ -24,14 +24,14 @@ use Rattle.crew_core.specs.Keeping.{Keeps}
 use Rattle.crew_core.specs.KeepingOn.{KeepsOn}
 use Rattle.crew_core.specs.Working.{IsWorkersEntry, Role, role_of}
 use Rattle.crew_core.proofs.Keeping.{keeps_both, keeps_none, keeps_others, of_entries}
-use Rattle.crew.specs.Posts.{SamePass, opened}
+use Rattle.crew_workers.specs.Posts.{SamePass, opened}
 use Rattle.store_core.specs.declared.stores.Store.{Ghosts}
 use Rattle.crew.specs.declared.seats.Seat.{Seat}
 use Rattle.crew.specs.declared.plans.Plan.{Plan}
 use Rattle.crew.specs.Plans.{job_in, role_in}
 use Rattle.std.proofs.lemmas.List.{length-append}
 use Rattle.crew.specs.Seats.{IsAlone, IsNew, IsPlaceFor, IsSeated, KinKeeps, PlacedFrom, SeenSame, Shows}
-use Rattle.crew.proofs.PortKeeping.{front_is, opened_same, rest_is, some_is}
+use Rattle.crew_workers.proofs.PortKeeping.{front_is, opened_same, rest_is, some_is}
 use Rattle.std.proofs.lemmas.List.{append-nil, append_cancel_left}
 use mathlib.Core.List.{IsPrefix}
 use Rattle.turnstile.specs.Plays.{both_of}

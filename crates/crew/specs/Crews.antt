@@ -10,9 +10,9 @@ use Rattle.history_core.specs.Stands.{StandsFor}
 use Rattle.crew_core.specs.Competing.{HasAppended, HasCollection, HasReader}
 use Rattle.crew_core.specs.Working.{IsWorkersEntry}
 use Rattle.read_client.specs.declared.readers.Reader.{Reader}
-use Rattle.crew.specs.declared.ends.WorkerEnd.{WorkerEnd}
+use Rattle.crew_workers.specs.declared.ends.WorkerEnd.{WorkerEnd}
 use Rattle.crew.specs.declared.plans.Plan.{Plan}
-use Rattle.crew.specs.Pinning.{IsPinLeft}
+use Rattle.crew_workers.specs.Pinning.{IsPinLeft}
 use Rattle.crew.specs.Plans.{first_of, role_in}
 
 -- The history that a crew left begins with the one that it found. Where that is lawful and its start stands for a list, so is what it

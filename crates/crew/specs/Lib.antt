@@ -1,11 +1,3 @@
 pub mod Plans
-pub mod Ends
-pub mod Writing
-pub mod Merging
-pub mod Collecting
-pub mod Pinning
-pub mod Turns
-pub mod Posts
-pub mod Looping
 pub mod Seats
 pub mod Crews

@@ -22,15 +22,15 @@ use Rattle.shared_store.specs.Trails.{entry_client}
 use Rattle.crew_core.specs.Keeping.{Keeps}
 use Rattle.crew_core.specs.Working.{IsWorkersEntry, Role, is_pin, role_of}
 use Rattle.crew_core.specs.declared.jobs.Job.{Job}
-use Rattle.crew.specs.declared.ends.WorkerEnd.{WorkerEnd}
-use Rattle.crew.specs.declared.ends.WorkerEnd.TheVariants as ends
+use Rattle.crew_workers.specs.declared.ends.WorkerEnd.{WorkerEnd}
+use Rattle.crew_workers.specs.declared.ends.WorkerEnd.TheVariants as ends
 use Rattle.crew.specs.declared.seats.Seat.{Seat}
 use Rattle.crew.specs.declared.plans.Plan.{Plan}
-use Rattle.crew.specs.Ends.{EndMeans}
-use Rattle.crew.specs.Looping.{EndShown, LastFailed}
+use Rattle.crew_workers.specs.Ends.{EndMeans}
+use Rattle.crew_workers.specs.Looping.{EndShown, LastFailed}
 use Rattle.crew.specs.Plans.{client_of, first_of, job_in, job_of}
-use Rattle.crew.specs.Pinning.{IsPinLeft, IsPinOf}
-use Rattle.crew.specs.Posts.{opened}
+use Rattle.crew_workers.specs.Pinning.{IsPinLeft, IsPinOf}
+use Rattle.crew_workers.specs.Posts.{opened}
 use Rattle.stops_core.specs.Stops.{stop_of}
 
 -- what an end says of the entries of its client that have come to a history

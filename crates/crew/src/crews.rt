@@ -8,16 +8,14 @@ ghost use Rattle.shared_store.specs.Fronts.{front_of};
 ghost use Rattle.shared_store.specs.Owners.{IsPassOfStore};
 ghost use Rattle.appends_core.specs.Feeds.{IsFeed};
 ghost use Rattle.crew.specs.Crews.{CrewRanOn, LeavesPin};
-ghost use Rattle.crew.specs.Pinning.{IsPinOf};
+ghost use Rattle.crew_workers.specs.Pinning.{IsPinOf};
 ghost use Rattle.crew.specs.Plans.{workers_of};
 ghost use Rattle.crew.specs.Seats.{EndsOn, HasPin, HaveNone, PinsIdle, PinsLeft, PlacedFrom, pins_of};
 
 use crate::end_lists::EndList;
-use crate::ends::WorkerEnd;
-use crate::gates::Gate;
 use crate::plans::Plan;
-use crate::progress::Progress;
 use crate::seats::{Seat, deal, gather_all, hand_in, hand_out, sit_all};
+use crew_workers::{Gate, Progress, WorkerEnd};
 use read_client::Reader;
 use shared_store::{CountedStore, SharedStore};
 use std::alloc::{AllocError, Global};

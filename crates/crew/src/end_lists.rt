@@ -1,7 +1,7 @@
 // EndList: the ends of the workers of a crew, in their order.
 ghost use Rattle.std.specs.Prelude.{◌≡◌};
 
-use crate::ends::WorkerEnd;
+use crew_workers::WorkerEnd;
 use std::alloc::{AllocError, Global};
 use std::marker::Model;
 
@@ -13,7 +13,7 @@ pub struct EndList {
 
 impl Model for EndList {
     ghost use Rattle.std.specs.Prelude.{List};
-    ghost use Rattle.crew.specs.declared.ends.WorkerEnd.{WorkerEnd};
+    ghost use Rattle.crew_workers.specs.declared.ends.WorkerEnd.{WorkerEnd};
 
     ghost Value = { List WorkerEnd };
 

@@ -1,6 +1,6 @@
 // A pin for crews.
 ghost use Rattle.std.specs.Prelude.{IfSome};
-ghost use Rattle.crew.specs.Pinning.{IsPinOf};
+ghost use Rattle.crew_workers.specs.Pinning.{IsPinOf};
 
 use driving::{SolePort, drive};
 use read_client::Reader;

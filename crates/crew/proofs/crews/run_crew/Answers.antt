@@ -1,8 +1,8 @@
 use Rattle.std.proofs.Common.{◌≡◌, Option, subst, sym}
 use Rattle.store_core.specs.Histories.{History}
 use Rattle.store_core.specs.Ports.{GrowsByOthers}
-use Rattle.crew.specs.Pinning.{IsPinOf}
-use Rattle.crew.proofs.PinFollows.{pin_by}
+use Rattle.crew_workers.specs.Pinning.{IsPinOf}
+use Rattle.crew.proofs.PinBack.{pin_by}
 use Rattle.crew.proofs.crews.run_crew.Goals as goal
 
 pub work_with_pin-store-requires-clause-pin : goal.work_with_pin-store-requires-clause-pin

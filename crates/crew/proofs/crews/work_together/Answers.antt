@@ -9,7 +9,7 @@ use Rattle.store_core.specs.declared.entries.Entry.{Entry}
 use Rattle.std.specs.Prelude.{slice_index_or}
 use Rattle.store_core.specs.Histories.{History}
 use Rattle.read_client.specs.declared.readers.Reader.{Reader}
-use Rattle.crew.specs.declared.ends.WorkerEnd.{WorkerEnd}
+use Rattle.crew_workers.specs.declared.ends.WorkerEnd.{WorkerEnd}
 use Rattle.crew.specs.Seats.{HasPin, HasWorked, NumberedFrom, PinsIdle, PinsLeft, Works, pins_of}
 use Rattle.crew.proofs.CrewEnds.{all_numbered, all_placed, all_worked, crew_ran_on, ends_on, grows_by_others}
 use Rattle.crew.proofs.CrewEnds.{kept_keeps, others_none, seats_there}

@@ -1,7 +1,7 @@
 use Rattle.std.proofs.Common.{◌≡◌, ◌≢◌, ◌⊎◌, None}
 use Rattle.turnstile.specs.Passes.{view}
 use Rattle.shared_store.specs.Fronts.{front_of}
-use Rattle.crew.specs.Pinning.{IsPinOf}
+use Rattle.crew_workers.specs.Pinning.{IsPinOf}
 use Rattle.crew.specs.Seats.{HasPin, NoPin, pins_of}
 use Rattle.crew.proofs.PinSeats.{back_same, left_back, may_be, none_pin, none_second, none_then}
 use Rattle.crew.proofs.crews.work_with_pin.Goals as goal

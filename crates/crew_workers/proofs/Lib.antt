@@ -1,0 +1,16 @@
+mod Among
+mod Beginnings
+mod CollectTurning
+mod Endings
+mod Looping
+mod MeansGrown
+mod MergeBeginnings
+mod MergeCarries
+mod MergeTurning
+mod PinFollows
+mod PinTurning
+mod PortKeeping
+mod Reaching
+mod RoleKeeping
+mod TurnEnds
+mod Turning

@@ -1,0 +1,15 @@
+use Rattle.std.proofs.Common.{sym, ap, subst}
+use Rattle.turnstile.specs.Passes.{view}
+use Rattle.shared_store.specs.Fronts.{front_of}
+use Rattle.crew_core.specs.KeepingOn.{KeepsOn}
+use Rattle.crew_core.specs.Working.{IsWorkersEntry, Role, role_of}
+use Rattle.crew_workers.proofs.PinTurning.{keeps_as_pin}
+use Rattle.crew_workers.proofs.working.work_alone.Goals as goal
+
+pub returns-in-Pin-clause-keeps : goal.returns-in-Pin-clause-keeps
+returns-in-Pin-clause-keeps g c =
+    let before = front_of g.S.Store.history (view c.args.pass) in
+    let now = front_of g.S.Store.history (view c.collect_alone-in-Pin.result.0) in
+    subst (λ (r : Role). KeepsOn (IsWorkersEntry r c.args.task.shard) c.args.task.shard (view c.args.pass).number before now)
+    (sym (ap (λ j. role_of j c.args.task.appends.now) c.in-Pin.is))
+    (keeps_as_pin c.args.task.shard (view c.args.pass).number before now c.collect_alone-in-Pin.ensures.keeps)
