@@ -3,13 +3,13 @@ mod Beginnings
 mod CollectTurning
 mod Endings
 mod Looping
-mod MeansGrown
+pub mod MeansGrown
 mod MergeBeginnings
 mod MergeCarries
 mod MergeTurning
 mod PinFollows
 mod PinTurning
-mod PortKeeping
+pub mod PortKeeping
 mod Reaching
 mod RoleKeeping
 mod TurnEnds
