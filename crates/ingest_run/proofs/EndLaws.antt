@@ -1,7 +1,7 @@
 -- Whether the first so many workers were halted, one after the other.
 use Rattle.std.proofs.Common.{◌≡◌, ℕ, zero, suc, ◌+◌, ◌-◌, ◌<◌, ◌≤◌, true, false, List, [], ◌∷◌, length, drop, slice_index_or, refl, sym, ap, ◌∙◌, arith}
 use Rattle.std.proofs.lemmas.List.{drop_all, drop_more}
-use Rattle.crew.specs.declared.ends.WorkerEnd.{WorkerEnd}
+use Rattle.crew_workers.specs.declared.ends.WorkerEnd.{WorkerEnd}
 use Rattle.ingest_run.specs.Verdicts.{are_halted, is_halted}
 
 -- at the end of the list all that there are were halted

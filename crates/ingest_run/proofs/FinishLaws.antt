@@ -12,7 +12,7 @@ use Rattle.store_core.specs.Histories.{History}
 use Rattle.state_core.proofs.ListLemmas.{bool_cases}
 use Rattle.history_core.specs.Stands.{accepted}
 use Rattle.appends_core.specs.Feeds.{end_of_feed}
-use Rattle.crew.specs.declared.ends.WorkerEnd.{WorkerEnd}
+use Rattle.crew_workers.specs.declared.ends.WorkerEnd.{WorkerEnd}
 use Rattle.feed_text.specs.declared.feed_lines.FeedLine.{FeedLine}
 use Rattle.driving.specs.Goings.{Goes}
 use Rattle.driving.proofs.GoingLaws.{going_so, more_going, no_going}

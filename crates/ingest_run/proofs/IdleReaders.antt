@@ -18,10 +18,10 @@ use Rattle.state_core.specs.declared.transitions.Transition.TheVariants.{Leave}
 use Rattle.history_core.specs.declared.asked.Asked.TheVariants as asks
 use Rattle.read_client.specs.Beginning.{Changing}
 use Rattle.read_client.specs.Reading.{IsSound, shard_of}
-use Rattle.crew.specs.declared.ends.WorkerEnd.{WorkerEnd}
+use Rattle.crew_workers.specs.declared.ends.WorkerEnd.{WorkerEnd}
 use Rattle.crew.specs.declared.plans.Plan.{Plan}
 use Rattle.crew.specs.Crews.{LeavesPin}
-use Rattle.crew.specs.Pinning.{IsPinOf}
+use Rattle.crew_workers.specs.Pinning.{IsPinOf}
 use Rattle.driving.specs.Goings.{Goes}
 use Rattle.driving.specs.StoreTurns.{Grown}
 use Rattle.plain_run.specs.Answering.{ReaderReady}

@@ -1,7 +1,7 @@
 -- What the ends of a crew's workers make of an ingest.
 use Rattle.std.specs.Prelude.{ℕ, zero, suc, Bool, true, false, Option, Result, Ok, Err, List, [], ◌∷◌, if◌then◌else◌}
-use Rattle.crew.specs.declared.ends.WorkerEnd.{WorkerEnd}
-use Rattle.crew.specs.declared.ends.WorkerEnd.TheVariants as ends
+use Rattle.crew_workers.specs.declared.ends.WorkerEnd.{WorkerEnd}
+use Rattle.crew_workers.specs.declared.ends.WorkerEnd.TheVariants as ends
 use Rattle.ingest_run.specs.declared.faults.IngestFault.{IngestFault}
 use Rattle.ingest_run.specs.declared.faults.IngestFault.TheVariants as faults
 

@@ -6,7 +6,7 @@ ghost use Rattle.driving.specs.Goings.{Goes, GrowsBy};
 ghost use Rattle.ingest_text.specs.Feeds.{IsQuery};
 ghost use Rattle.plain_run.specs.Answering.{Closed, ReaderReady, TendsTo, number_of};
 ghost use Rattle.ingest_run.specs.declared.faults.IngestFault.TheVariants.{Outside};
-ghost use Rattle.crew.specs.Pinning.{IsPinOf};
+ghost use Rattle.crew_workers.specs.Pinning.{IsPinOf};
 ghost use Rattle.ingest_run.specs.Idling.{IsIdle};
 ghost use Rattle.ingest_run.specs.Ends.{Answers, Finishes, Reports, SeesEnd, SettlesBy};
 

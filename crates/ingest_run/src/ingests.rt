@@ -7,7 +7,7 @@ ghost use Rattle.appends_core.specs.Feeds.{IsFeed};
 ghost use Rattle.ingest_text.specs.Feeds.{IsQuery};
 ghost use Rattle.ingest_run.specs.declared.faults.IngestFault.TheVariants.{Outside};
 ghost use Rattle.plain_run.specs.Answering.{ReaderReady, number_of};
-ghost use Rattle.crew.specs.Pinning.{IsPinOf};
+ghost use Rattle.crew_workers.specs.Pinning.{IsPinOf};
 ghost use Rattle.crew.specs.Plans.{workers_of};
 ghost use Rattle.ingest_run.specs.Ends.{Ends, Ingests, Works, texts};
 
