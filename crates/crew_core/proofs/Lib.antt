@@ -8,7 +8,7 @@ mod Completing
 pub mod CrewLaws
 mod Examples
 mod FeedLaws
-mod Hearing
+pub mod Hearing
 mod Joining
 pub mod Keeping
 mod Leaving

@@ -80,11 +80,13 @@ pub data Role : Type 0 where
   as_pin : Role
   as_follower : ℕ → Role
 
-abbrev pub role_of : Job → List FeedAppend → Role
-role_of jobs.Write appends = as_writer appends
-role_of jobs.Merge appends = as_compactor
-role_of jobs.Collect appends = as_collector
-role_of jobs.Pin appends = as_pin
+-- what a worker with this job is for, by the crew's appends and by how many entries its client had made when the crew began
+abbrev pub role_of : Job → List FeedAppend → ℕ → Role
+role_of jobs.Write appends made = as_writer appends
+role_of jobs.Merge appends made = as_compactor
+role_of jobs.Collect appends made = as_collector
+role_of jobs.Pin appends made = as_pin
+role_of jobs.Follow appends made = as_follower made
 
 -- What a worker may commit. A writer of a crew: the join of a writer, the leave of one that it joined, and its appends. A compactor: the
 -- join of a keeper, the leave of one that it joined, and merges. A collector: nothing. The one that works as the client that the pin reads

@@ -13,6 +13,8 @@ pub enum Job {
     Collect,
     /// The same, as the client that the pin reads as.
     Pin,
+    /// It follows a listen.
+    Follow,
 }
 
 impl Job {

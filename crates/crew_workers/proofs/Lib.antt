@@ -2,6 +2,12 @@ mod Among
 mod Beginnings
 mod CollectTurning
 mod Endings
+mod FollowBeginnings
+mod FollowCarries
+mod FollowFresh
+mod FollowHears
+mod FollowTurning
+pub mod FollowWorking
 mod Looping
 pub mod MeansGrown
 mod MergeBeginnings

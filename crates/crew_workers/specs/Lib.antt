@@ -3,6 +3,7 @@ pub mod Writing
 pub mod Merging
 pub mod Collecting
 pub mod Pinning
+pub mod Following
 pub mod Turns
 pub mod Posts
 pub mod Looping

@@ -2,9 +2,12 @@
 //! what they promise.
 #![tactic(auto)]
 
+mod befores;
 mod collecting;
 mod ends;
+mod following;
 mod gates;
+mod heards;
 mod merging;
 mod pinning;
 mod progress;
@@ -13,10 +16,13 @@ mod workers;
 mod working;
 mod writing;
 
+pub use befores::Before;
 pub use collecting::CollectorWorker;
 pub use crew_core::Job;
 pub use ends::{WorkerEnd, WorkerTurn};
+pub use following::{Follow, FollowWorker};
 pub use gates::{Gate, OpenGate};
+pub use heards::Heard;
 pub use merging::CompactorWorker;
 pub use pinning::PinWorker;
 pub use progress::Progress;

@@ -3,20 +3,24 @@ ghost use Rattle.std.specs.Prelude.{◌≡◌, ⊤, ℕ, Option};
 ghost use Rattle.store_core.specs.declared.shards.ShardId.{ShardId};
 ghost use Rattle.store_core.specs.Histories.{History};
 ghost use Rattle.appends_core.specs.Feeds.{IsFeed};
-ghost use Rattle.crew_core.specs.Working.{Role, as_collector, as_compactor, as_pin, as_writer};
+ghost use Rattle.crew_core.specs.Working.{Role, as_collector, as_compactor, as_follower, as_pin, as_writer};
 ghost use Rattle.crew_workers.specs.declared.ends.WorkerEnd.{WorkerEnd};
 ghost use Rattle.crew_workers.specs.Turns.{Leaves, ReadyAgain, Turned};
 ghost use Rattle.crew_workers.specs.Collecting as collecting;
+ghost use Rattle.crew_workers.specs.Following as following;
 ghost use Rattle.crew_workers.specs.Merging as merging;
 ghost use Rattle.crew_workers.specs.Pinning as pinning;
 ghost use Rattle.crew_workers.specs.Writing.{IsReady};
 
 use crate::collecting::CollectorWorker;
 use crate::ends::WorkerTurn;
+use crate::befores::Before;
+use crate::following::FollowWorker;
 use crate::merging::CompactorWorker;
 use crate::pinning::PinWorker;
 use crate::writing::WriterWorker;
 use std::alloc::Global;
+use std::marker::PhantomData;
 use store_core::Port;
 
 /// A worker of a crew, which takes turns at a port until it ends.
@@ -99,5 +103,20 @@ impl<'a> Worker for PinWorker<'a> {
 
     fn turn<P: Port>(&mut self, alloc: Global, port: &mut P) -> WorkerTurn {
         self.poll_once(alloc, port)
+    }
+}
+
+impl<'a, B: Before> Worker for FollowWorker<'a, B> {
+    ghost role = { λ w. as_follower B.count };
+
+    ghost shard = { λ w. w.follow.shard };
+
+    ghost ready = { λ w client front. following.IsReadyAs B.count B.as_of client front w.follow };
+
+    ghost left = { λ w client front end. following.HasHeardAs B.as_of front w.follow };
+
+    fn turn<P: Port>(&mut self, alloc: Global, port: &mut P) -> WorkerTurn {
+        let before: PhantomData<B> = PhantomData;
+        self.follow.poll_once(alloc, port, before)
     }
 }

@@ -1,5 +1,6 @@
 // A worker works to its end.
-ghost use Rattle.std.specs.Prelude.{◌≡◌, true, ℕ, None, Option, IfSome, is_some};
+ghost use Rattle.std.specs.Prelude.{◌≡◌, [], true, ℕ, None, Option, IfSome, is_some};
+ghost use Rattle.update_core.specs.Frontiers.{after};
 ghost use Rattle.store_core.specs.Histories.{History};
 ghost use Rattle.turnstile.specs.Passes.{IsPassOf, view};
 ghost use Rattle.shared_store.specs.Fronts.{front_of};
@@ -7,15 +8,19 @@ ghost use Rattle.shared_store.specs.Passes.{kept_of, told_of};
 ghost use Rattle.shared_store.specs.Trails.{entry_client};
 ghost use Rattle.appends_core.specs.Feeds.{IsFeed};
 ghost use Rattle.crew_core.specs.KeepingOn.{KeepsOn};
-ghost use Rattle.crew_core.specs.Working.{IsWorkersEntry, as_collector, as_compactor, as_pin, as_writer, is_pin, role_of};
+ghost use Rattle.crew_core.specs.Working.{IsWorkersEntry, as_collector, as_compactor, as_follower, as_pin, as_writer, is_pin, role_of};
 ghost use Rattle.crew_workers.specs.declared.ends.WorkerEnd.TheVariants as ends;
+ghost use Rattle.crew_workers.specs.Following.{HasHeardOn};
 ghost use Rattle.crew_workers.specs.Looping.{EndShown};
 ghost use Rattle.crew_workers.specs.Pinning.{IsPinLeft, IsPinOf};
-ghost use Rattle.crew_workers.specs.Posts.{SamePass, own_calls};
+ghost use Rattle.crew_workers.specs.Posts.{SamePass, made_before, own_calls};
 
 use crate::collecting::CollectorWorker;
 use crate::ends::{WorkerEnd, WorkerTurn};
+use crate::befores::Before;
+use crate::following::{Follow, FollowWorker};
 use crate::gates::Gate;
+use crate::heards::Heard;
 use crate::merging::CompactorWorker;
 use crate::pinning::PinWorker;
 use crate::progress::Progress;
@@ -26,6 +31,7 @@ use crew_core::Job;
 use read_client::Reader;
 use shared_store::{CountedStore, SharedPort};
 use std::alloc::Global;
+use std::marker::{Brand, PhantomData};
 use std::sync::Wait;
 use store_core::{ShardId, Store};
 use turnstile::{Pass, Turnstile};
@@ -90,7 +96,7 @@ fn alone<S: Store, G: Gate, W: Worker, R: Wait>(
     (port.back(), end)
 }
 
-/// What a worker is to do: its number, what it is for, its stop number if it has one, and what it works on.
+/// What a worker is to do: its number, what it is for, its stop number if it has one, what it works on, and after which time it listens.
 #[derive(Clone, Copy)]
 pub struct Task<'a> {
     pub worker: u32,
@@ -98,11 +104,12 @@ pub struct Task<'a> {
     pub stop: Option<u64>,
     pub shard: ShardId,
     pub appends: &'a [FeedAppend],
+    pub as_of: u64,
     pub moment: u64,
     pub progress: &'a Progress,
 }
 
-/// A worker of the task works to its end, with the pin where it has that in hand.
+/// A worker of the task works to its end, with the pin where it has that in hand. What a listen of it has heard is in place of nothing.
 pub fn work_with<S: Store, G: Gate, R: Wait>(
     rt: &R,
     alloc: Global,
@@ -111,20 +118,23 @@ pub fn work_with<S: Store, G: Gate, R: Wait>(
     gate: &G,
     task: Task<'_>,
     pin: &mut Option<Reader>,
+    heard: &mut Heard,
 ) -> (Pass<CountedStore<S>>, WorkerEnd)
     requires pass { IsPassOf told_of entry_client turnstile.now pass }
     requires fresh { own_calls (view pass) ≡ 0 }
     requires feed { IsFeed task.appends.now }
+    requires none { (heard.old.rows ≡ []) × (heard.old.frontier ≡ after task.as_of) }
     requires pin { IfSome pin.old (λ r. (is_pin task.job ≡ true) × ((r.asked ≡ None)
         × IsPinOf task.shard (view pass).number (front_of S.history (view pass)) r)) }
     ensures pass { IsPassOf told_of entry_client turnstile.now result.0 }
     ensures same { SamePass (view pass) (view result.0) }
-    ensures keeps { KeepsOn (IsWorkersEntry (role_of task.entry.job task.entry.appends.now) task.entry.shard) task.entry.shard
+    ensures keeps { KeepsOn (IsWorkersEntry (role_of task.entry.job task.entry.appends.now (made_before S.history (view pass))) task.entry.shard) task.entry.shard
         (view pass).number (front_of S.history (view pass)) (front_of S.history (view result.0)) }
-    ensures end { EndShown S.history (role_of task.entry.job task.entry.appends.now) task.entry.shard task.entry.stop
+    ensures end { EndShown S.history (role_of task.entry.job task.entry.appends.now (made_before S.history (view pass))) task.entry.shard task.entry.stop
         (view result.0) result.1 }
     ensures pin { IfSome pin.new (λ r. IsPinLeft task.entry.shard (view result.0).number (front_of S.history (view result.0)) r result.1) }
     ensures held { is_some pin.new ≡ is_some pin.old }
+    ensures heard { HasHeardOn task.entry.shard task.entry.as_of (front_of S.history (view result.0)) heard.new }
 {
     match pin.take() {
         Some(reader) => {
@@ -132,7 +142,7 @@ pub fn work_with<S: Store, G: Gate, R: Wait>(
             *pin = Some(reader);
             (pass, end)
         }
-        None => work_alone(rt, alloc, turnstile, pass, gate, task),
+        None => work_alone(rt, alloc, turnstile, pass, gate, task, heard),
     }
 }
 
@@ -144,22 +154,30 @@ fn work_alone<S: Store, G: Gate, R: Wait>(
     pass: Pass<CountedStore<S>>,
     gate: &G,
     task: Task<'_>,
+    heard: &mut Heard,
 ) -> (Pass<CountedStore<S>>, WorkerEnd)
     requires pass { IsPassOf told_of entry_client turnstile.now pass }
     requires fresh { own_calls (view pass) ≡ 0 }
     requires feed { IsFeed task.appends.now }
+    requires none { (heard.old.rows ≡ []) × (heard.old.frontier ≡ after task.as_of) }
     ensures pass { IsPassOf told_of entry_client turnstile.now result.0 }
     ensures same { SamePass (view pass) (view result.0) }
-    ensures keeps { KeepsOn (IsWorkersEntry (role_of task.entry.job task.entry.appends.now) task.entry.shard) task.entry.shard
+    ensures keeps { KeepsOn (IsWorkersEntry (role_of task.entry.job task.entry.appends.now (made_before S.history (view pass))) task.entry.shard) task.entry.shard
         (view pass).number (front_of S.history (view pass)) (front_of S.history (view result.0)) }
-    ensures end { EndShown S.history (role_of task.entry.job task.entry.appends.now) task.entry.shard task.entry.stop
+    ensures end { EndShown S.history (role_of task.entry.job task.entry.appends.now (made_before S.history (view pass))) task.entry.shard task.entry.stop
         (view result.0) result.1 }
+    ensures heard { HasHeardOn task.entry.shard task.entry.as_of (front_of S.history (view result.0)) heard.new }
 {
     match task.job {
         Job::Write => write_alone(rt, alloc, turnstile, pass, gate, task),
         Job::Merge => merge_alone(rt, alloc, turnstile, pass, gate, task),
         Job::Collect => collect_alone(rt, alloc, turnstile, pass, gate, task),
         Job::Pin => collect_alone(rt, alloc, turnstile, pass, gate, task),
+        Job::Follow => {
+            let (pass, end, news) = follow_alone(rt, alloc, turnstile, pass, gate, task);
+            *heard = news;
+            (pass, end)
+        }
     }
 }
 
@@ -295,4 +313,62 @@ fn pin_alone<S: Store, G: Gate, R: Wait>(
         renewed: _,
     } = worker;
     (pass, end, pin)
+}
+
+// A follower of the task works to its end, and gives what it has heard.
+fn follow_alone<S: Store, G: Gate, R: Wait>(
+    rt: &R,
+    alloc: Global,
+    turnstile: &Turnstile<CountedStore<S>>,
+    pass: Pass<CountedStore<S>>,
+    gate: &G,
+    task: Task<'_>,
+) -> (Pass<CountedStore<S>>, WorkerEnd, Heard)
+    requires pass { IsPassOf told_of entry_client turnstile.now pass }
+    requires fresh { own_calls (view pass) ≡ 0 }
+    ensures pass { IsPassOf told_of entry_client turnstile.now result.0 }
+    ensures same { SamePass (view pass) (view result.0) }
+    ensures keeps { KeepsOn (IsWorkersEntry (as_follower (made_before S.history (view pass))) task.entry.shard) task.entry.shard
+        (view pass).number (front_of S.history (view pass)) (front_of S.history (view result.0)) }
+    ensures end { EndShown S.history (as_follower (made_before S.history (view pass))) task.entry.shard task.entry.stop
+        (view result.0) result.1 }
+    ensures heard { HasHeardOn task.entry.shard task.entry.as_of (front_of S.history (view result.0)) result.2 }
+{
+    follow_past::<S, G, R, Brand>(rt, alloc, turnstile, pass, gate, task, PhantomData)
+}
+
+// The same, where its client had made so many entries before.
+fn follow_past<S: Store, G: Gate, R: Wait, B: Before>(
+    rt: &R,
+    alloc: Global,
+    turnstile: &Turnstile<CountedStore<S>>,
+    pass: Pass<CountedStore<S>>,
+    gate: &G,
+    task: Task<'_>,
+    before: PhantomData<B>,
+) -> (Pass<CountedStore<S>>, WorkerEnd, Heard)
+    requires count { B.count ≡ made_before S.history (view pass) }
+    requires as_of { B.as_of ≡ task.as_of }
+    requires pass { IsPassOf told_of entry_client turnstile.now pass }
+    requires fresh { own_calls (view pass) ≡ 0 }
+    ensures pass { IsPassOf told_of entry_client turnstile.now result.0 }
+    ensures same { SamePass (view pass) (view result.0) }
+    ensures keeps { KeepsOn (IsWorkersEntry (as_follower B.count) task.entry.shard) task.entry.shard
+        (view pass).number (front_of S.history (view pass)) (front_of S.history (view result.0)) }
+    ensures end { EndShown S.history (as_follower B.count) task.entry.shard task.entry.stop (view result.0) result.1 }
+    ensures heard { HasHeardOn task.entry.shard task.entry.as_of (front_of S.history (view result.0)) result.2 }
+{
+    let follow = Follow::new(alloc, task.shard, task.as_of, task.moment, task.progress);
+    let mut worker = FollowWorker { follow, before };
+    let (pass, end) = alone(
+        rt,
+        alloc,
+        turnstile,
+        pass,
+        gate,
+        task.worker,
+        task.stop,
+        &mut worker,
+    );
+    (pass, end, worker.heard())
 }
