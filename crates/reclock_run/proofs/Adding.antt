@@ -1,5 +1,5 @@
 -- What a poll of an operator adds to its front is an operator's.
-use Rattle.std.proofs.Common.{◌≡◌, ◌≢◌, ◌⊎◌, ℕ, Option, Some, List, [], ◌∷◌, ◌++◌, inl, inr, refl, sym, ap, subst, ◌∙◌}
+use Rattle.std.proofs.Common.{◌≡◌, ◌≢◌, ◌⊎◌, ℕ, Option, Some, Result, Ok, Err, List, [], ◌∷◌, ◌++◌, inl, inr, refl, sym, ap, subst, ◌∙◌}
 use Rattle.std.specs.Prelude.{reverse}
 use Rattle.update_core.specs.declared.updates.Update.{Update}
 use Rattle.store_core.specs.declared.calls.Call.{Call}
@@ -16,6 +16,7 @@ use Rattle.history_core.specs.Stands.{StandsFor}
 use Rattle.history_core.proofs.Gaining.{mine_others}
 use Rattle.history_core.proofs.LawfulLaws.{turned}
 use Rattle.history_core.proofs.Prefixes.{prefix_lawful}
+use Rattle.load_core.specs.declared.begin_faults.BeginFault.{BeginFault}
 use Rattle.load_core.specs.declared.polls.Poll.{Poll}
 use Rattle.load_core.specs.declared.polls.Poll.TheVariants as polls
 use Rattle.load_core.specs.Fronts.{Backwards, WhereLawful}
@@ -27,9 +28,12 @@ use Rattle.crew_core.proofs.Keeping.{on_both, on_gains, on_others, on_same}
 use Rattle.read_client.specs.Machining as reads
 use Rattle.write_client.specs.Machining as writes
 use Rattle.reclock_client.specs.declared.clock_answers.ClockAnswer.{ClockAnswer}
+use Rattle.reclock_client.specs.declared.errands.Errand.{Errand}
 use Rattle.reclock_client.specs.declared.operators.Operator.{Operator}
 use Rattle.reclock_client.specs.declared.steps.Part.{Part}
 use Rattle.reclock_client.specs.declared.steps.Part.TheVariants as parts
+use Rattle.reclock_client.specs.declared.steps.Step.{Step}
+use Rattle.reclock_client.specs.Beginning.{Begins, begun}
 use Rattle.reclock_client.specs.Looking as looks
 use Rattle.reclock_client.specs.Operators.{IsSound, part_of}
 use Rattle.reclock_client.specs.Polling.{Polled, PolledBy, Unpolled, UnpolledBy, bound}
@@ -195,3 +199,25 @@ module _ (client : ℕ) (front now : Option History) (o new : Operator) where
       let same : Same (record o { course = bound o.course }) ready = starts_same (part_of o.course.step) (record o { course = bound o.course }) ready readies in
       worked_as client front now o ready new same.remap same.data_shard
       (left_by_part client front now ready new (part_of ready.course.step) u)
+
+-- ---- a command begins
+
+-- begun, or not, the operator is of the same shards, and nothing was called
+pub begun_worked : (client : ℕ) (front : Option History) (fault : Option BeginFault) (old new : Operator) (errand : Errand) (step : Step)
+    (r : Result Unit BeginFault) → Begins fault old new (begun old errand step) r → Worked client front front old new
+begun_worked client front fault old new errand step (Ok done) (none, is) = record {
+  remap = ap (λ (x : Operator). x.remap) is;
+  data_shard = ap (λ (x : Operator). x.data_shard) is;
+  adds = on_same (IsOperatorsEntry old.data_shard) old.remap client front;
+}
+begun_worked client front fault old new errand step (Err met) (met_is, is) = record {
+  remap = ap (λ (x : Operator). x.remap) is;
+  data_shard = ap (λ (x : Operator). x.data_shard) is;
+  adds = on_same (IsOperatorsEntry old.data_shard) old.remap client front;
+}
+
+-- more after what was done, at a port that is still the same client's
+pub goes_on : (client client_now : ℕ) (front mid now : Option History) (old then new : Operator) → client_now ≡ client →
+    Worked client front mid old then → Worked client_now mid now then new → Worked client front now old new
+goes_on client client_now front mid now old then new same first more =
+    worked_on client front mid now old then new first (subst (λ (n : ℕ). Worked n mid now then new) same more)

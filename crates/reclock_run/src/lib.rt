@@ -4,6 +4,8 @@
 mod finishing;
 mod operator_ends;
 mod printing;
+mod working;
 
 pub use operator_ends::OperatorEnd;
 pub use printing::print_reclock;
+pub use working::{open_and_mint, sync_and_publish};
