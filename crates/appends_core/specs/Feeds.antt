@@ -1,6 +1,7 @@
 -- The appends of a feed, which follow on one another. docs/DEFINITIONS.md, "Feeds of appends".
 use Rattle.std.specs.Prelude.{◌≡◌, ⊤, ℕ, ◌+◌, ◌≤◌, ◌^◌, true, Option, Some, List, [], ◌∷◌, ◌++◌, length, if◌then◌else◌}
 use Rattle.std.specs.List.{AllByRecursion}
+use Rattle.update_core.specs.Limits.{max_rows, max_weight}
 use Rattle.update_core.specs.declared.updates.Update.{Update}
 use Rattle.update_core.specs.declared.appends.FeedAppend.{FeedAppend}
 use Rattle.update_core.specs.Frontiers.{covers, is_at}
@@ -38,13 +39,13 @@ IsWithin lower upper u = (lower ≤ u.time) × (covers upper u.time ≡ true)
 -- an append has its rows in its range, and no more than one append may have
 pub record IsFit (a : FeedAppend) : Type 0 where
   pub in_range : between (Some a.lower) a.upper a.rows ≡ a.rows
-  pub few : length a.rows ≤ 65536
+  pub few : length a.rows ≤ max_rows
 
 -- the appends are those of a feed: they follow on from 0, each is fit, and together they weigh no more than a collection may
 pub record IsFeed (appends : List FeedAppend) : Type 0 where
   pub follow : FollowOn (Some 0) appends
   pub fit : AllByRecursion IsFit appends
-  pub light : weight_of_all appends ≤ 2 ^ 62
+  pub light : weight_of_all appends ≤ max_weight
 
 -- where a feed ends
 abbrev pub end_of_feed : List FeedAppend → Option ℕ

@@ -21,7 +21,7 @@ use Rattle.state_core.specs.Lists.{Among}
 use Rattle.state_core.specs.Refusals.{any_kind, member_of, of_member, refusal_by_kind}
 use Rattle.state_core.specs.States.{IsState, ShardState, is_reader, is_writer}
 use Rattle.state_core.specs.Steps.{Applies, Stands}
-use Rattle.state_core.specs.VersionReading.{most}
+use Rattle.update_core.specs.Limits.{most}
 use Rattle.state_core.proofs.ListLemmas.{bool_cases}
 use Rattle.history_core.specs.Discipline.{LawfulBack}
 use Rattle.history_core.specs.Legal.{AtLast, HasMember}

@@ -18,7 +18,7 @@ use Rattle.state_core.specs.Lists.{Among}
 use Rattle.state_core.specs.Refusals.{member_of}
 use Rattle.state_core.specs.States.{ShardState}
 use Rattle.state_core.specs.Steps.{Stands}
-use Rattle.state_core.specs.VersionReading.{most}
+use Rattle.update_core.specs.Limits.{most}
 use Rattle.state_core.proofs.ListLemmas.{bool_cases}
 use Rattle.history_core.specs.Answers.{own_of}
 use Rattle.history_core.specs.Discipline.{LawfulBack}

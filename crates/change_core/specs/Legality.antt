@@ -11,7 +11,7 @@ use Rattle.store_core.specs.Newest.{mine_back}
 use Rattle.state_core.specs.declared.kinds.Kind.{Kind}
 use Rattle.state_core.specs.declared.transitions.Transition.{Transition}
 use Rattle.state_core.specs.Lists.{Among}
-use Rattle.state_core.specs.VersionReading.{most}
+use Rattle.update_core.specs.Limits.{most}
 use Rattle.history_core.specs.Legal.{Absent, AtLast, Full, HasSince}
 use Rattle.history_core.specs.Members.{JoinedAs}
 use Rattle.history_core.specs.Placing.{AtLastScan, CommittedAs, Placed}

@@ -5,7 +5,7 @@ ghost use Rattle.store_core.specs.declared.entries.Entry.{Entry};
 ghost use Rattle.store_core.specs.declared.replies.Reply.{Reply};
 ghost use Rattle.store_core.specs.Stores.{Stored};
 ghost use Rattle.state_core.specs.declared.kinds.Kind.{Kind};
-ghost use Rattle.state_core.specs.VersionReading.{most};
+ghost use Rattle.update_core.specs.Limits.{most};
 ghost use Rattle.history_core.specs.Placing.{places};
 ghost use Rattle.load_core.specs.declared.tries.Tried.{Tried};
 ghost use Rattle.load_core.specs.declared.tryings.Trying.{Trying};

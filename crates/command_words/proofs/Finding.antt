@@ -36,7 +36,7 @@ abbrev HasNames : Text × Options → Type 0
 HasNames e = AllByRecursion (λ o. is_name o.0 ≡ true) e.1
 
 all_names : AllByRecursion HasNames commands
-all_names = ((refl, tt), ((refl, tt), ((refl, (refl, (refl, tt))), tt)))
+all_names = ((refl, tt), ((refl, tt), ((refl, (refl, (refl, (refl, (refl, tt))))), ((refl, (refl, (refl, tt))), tt))))
 
 some_of : {X : Type 0} (o : Option X) → is_some o ≡ true → (x : X) × (o ≡ Some x)
 some_of None h = absurd (true≢false (sym h))

@@ -1,8 +1,8 @@
 -- Words mean one command at most, and clap finds it.
-use Rattle.std.proofs.Common.{◌≡◌, ◌∙◌, ◌<◌, ◌^◌, ◌&&◌, ◌==◌, ℕ, Bool, cond, codes, true, false, not}
+use Rattle.std.proofs.Common.{◌≡◌, ◌∙◌, ◌<◌, ◌^◌, ◌+◌, ◌&&◌, ◌==◌, ℕ, Bool, cond, codes, true, false, not}
 use Rattle.std.proofs.Common.{refl, sym, ap, ap₂, subst, arith, List, [], ◌∷◌, ◌++◌, map, length, find, Option}
 use Rattle.std.proofs.Common.{Some, None, option_map, is_some, true≢false}
-use Rattle.std.specs.Prelude.{decimal, option_and_then, slice_get, unwrap_or, IfNone}
+use Rattle.std.specs.Prelude.{decimal, option_and_then, slice_get, unwrap_or, IfNone, IfOk, Result, Ok, Err}
 use Rattle.std.specs.List.{AllByRecursion, list_any}
 use Rattle.std.specs.Str.{bytes_eq}
 use Rattle.std.specs.Str.Parse.{IsNumeral}
@@ -24,11 +24,13 @@ use Rattle.clap.specs.declared.parser.matches.ArgMatches.TheViews.{out-ArgMatche
 use Rattle.command_words.specs.Found.{HoldsAll, IsFound, IsNone, Reads, value_in}
 use Rattle.clap.specs.Walk.{Row, Text, first_of, rows_of}
 use Rattle.command_words.specs.Uses.{AreDull, Once, Options, Spells, Use, command_named, commands, has_name, is_dull}
-use Rattle.command_words.specs.Uses.{option_named, reclock_options, shard_options, value_of}
-use Rattle.command_words.specs.Commands.{IsCommand, IsCount, Means, shard_in, uuid_number}
+use Rattle.command_words.specs.Uses.{ingest_options, option_named, reclock_options, shard_options, value_of}
+use Rattle.command_words.specs.Commands.{AreStops, IsCommand, IsCount, Means, shard_in, uuid_number}
 use Rattle.command_words.specs.Program.{row}
 use Rattle.command_words.specs.declared.commands.CommandWords.{CommandWords}
 use Rattle.command_words.specs.declared.commands.CommandWords.TheVariants as command
+use Rattle.stops_core.specs.declared.stops.Stop.{Stop}
+use Rattle.stops_text.proofs.StopWords.{first_byte}
 use Rattle.command_words.proofs.Finding.{found_holds}
 use Rattle.command_words.proofs.Walks.{named_is}
 
@@ -130,11 +132,20 @@ shard_dull : (d : ℕ) (value : Option Text) (id : ℕ) → Some id ≡ shard_in
 shard_dull d None id e v is = cc
 shard_dull d (Some t) id e v is = let same : t ≡ v = cc in subst (λ x. is_dull x ≡ true) same (uuid_dull t id e)
 
-count_dull : (value : Option Text) (n : ℕ) → IsCount 1 16 value n → (v : Text) → value ≡ Some v → is_dull v ≡ true
-count_dull value n count v is =
+count_dull : (low high : ℕ) (value : Option Text) (n : ℕ) → high < 2 ^ 64 → IsCount low high value n → (v : Text) → value ≡ Some v
+    → is_dull v ≡ true
+count_dull low high value n fits count v is =
     let both : Some (decimal n) ≡ Some v = sym count.0 ∙ is in
     let same : decimal n ≡ v = cc in
-    subst (λ x. is_dull x ≡ true) same (number_dull n (omega (arith, count.2)))
+    subst (λ x. is_dull x ≡ true) same (number_dull n (omega (arith, fits, count.2)))
+
+stops_dull : (workers : ℕ) → workers < 2 ^ 32 → (value : Option Text) (stops : List Stop) → AreStops workers value stops → (v : Text)
+    → value ≡ Some v → is_dull v ≡ true
+stops_dull workers few None stops are v is = cc
+stops_dull workers few (Some []) stops are v is = let same : [] ≡ v = cc in subst (λ x. is_dull x ≡ true) same refl
+stops_dull workers few (Some (x ∷ xs)) stops are v is =
+    let same : x ∷ xs ≡ v = cc in
+    subst (λ t. is_dull t ≡ true) same (not_dash x (λ dash. first_byte workers few x xs [] stops are (eqb-true x 45 dash)))
 
 options_of : (name n : Text) (options known : Options) → name ≡ n → command_named n commands ≡ Some (n, known) → command_named name commands
     ≡ Some (name, options) → options ≡ known
@@ -157,13 +168,29 @@ means_dull words name uses (command.Steps shard) spells means =
       shard_dull 1 (value_of (codes "shard") uses) shard means.1,
       tt,
     )) spells.1.2.known (own_values [] uses uses refl spells.1.2.once)
+means_dull words name uses (command.Ingest shard writers compactors collectors stops) spells means =
+    let is = options_of name (codes "ingest") spells.1.0 ingest_options means.0 refl spells.1.1 in
+    let few : writers + compactors + collectors < 2 ^ 32 = omega (arith, means.2.2, means.3.2, means.4.2) in
+    dull_uses spells.1.0 uses uses (subst (AllByRecursion (Dull uses)) (sym is) (
+      shard_dull 1 (value_of (codes "shard") uses) shard means.1,
+      (
+        count_dull 1 16 (value_of (codes "writers") uses) writers (omega arith) means.2,
+        (
+          count_dull 0 8 (value_of (codes "compactors") uses) compactors (omega arith) means.3,
+          (
+            count_dull 0 8 (value_of (codes "collectors") uses) collectors (omega arith) means.4,
+            (stops_dull (writers + compactors + collectors) few (value_of (codes "stop") uses) stops means.5, tt),
+          ),
+        ),
+      ),
+    )) spells.1.2.known (own_values [] uses uses refl spells.1.2.once)
 means_dull words name uses (command.Reclock remap shard operators) spells means =
     let is = options_of name (codes "reclock") spells.1.0 reclock_options means.0 refl spells.1.1 in
     dull_uses spells.1.0 uses uses (subst (AllByRecursion (Dull uses)) (sym is) (
       shard_dull 2 (value_of (codes "remap") uses) remap means.1,
       (
         shard_dull 3 (value_of (codes "data") uses) shard means.2,
-        (count_dull (value_of (codes "operators") uses) operators means.4, tt),
+        (count_dull 1 16 (value_of (codes "operators") uses) operators (omega arith) means.4, tt),
       ),
     ))
     spells.1.2.known (own_values [] uses uses refl spells.1.2.once)
@@ -188,7 +215,7 @@ reads_as m given name first second = pair_of (λ b. (out-SubCommand (box_value b
 abbrev taken_from : Option (Text × List Row) → Text × List Row
 taken_from o = unwrap_or o ([], [])
 
-pub reads_none : (m given : ArgMatches) (name : Text) (r : Option CommandWords) → Some name ≡ subcommand_name_of m
+reads_none : (m given : ArgMatches) (name : Text) (r : Option CommandWords) → Some name ≡ subcommand_name_of m
     → Some (rows_of (found_of given)) ≡ option_map (λ p. p.1) (subcommand_rows (out-ArgMatches m).subcommand)
     → IfNone r ((c : CommandWords) → Means name (value_in given) c → ⊥) → IfNone r ((c : CommandWords) → Reads m c → ⊥)
 reads_none m given name (Some c) first second h = h
@@ -222,3 +249,10 @@ no_uuid t r not_ok is = go (parsed t) is
     go : (o : Option (List ℕ)) → is_some o ≡ r → None ≡ option_map (from_be_bytes w128) o
     go None e = refl
     go (Some u) e = absurd (not_ok (sym e))
+
+pub reads_none_ok : {E : Type 0} → (m given : ArgMatches) (name : Text) (r : Result (Option CommandWords) E) → Some name ≡ subcommand_name_of m
+    → Some (rows_of (found_of given)) ≡ option_map (λ p. p.1) (subcommand_rows (out-ArgMatches m).subcommand)
+    → IfOk r (λ found. IfNone found ((c : CommandWords) → Means name (value_in given) c → ⊥))
+    → IfOk r (λ found. IfNone found ((c : CommandWords) → Reads m c → ⊥))
+reads_none_ok m given name (Ok r) first second h = reads_none m given name r first second h
+reads_none_ok m given name (Err e) first second h = tt

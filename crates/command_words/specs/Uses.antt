@@ -49,6 +49,10 @@ pub record AreGiven (options : Options) (uses : List Use) : Type 0 where
 abbrev pub shard_options : Options
 shard_options = (codes "shard", false) ∷ []
 
+abbrev pub ingest_options : Options
+ingest_options = (codes "shard", false) ∷ (codes "writers", true) ∷ (codes "compactors", true) ∷ (codes "collectors", true)
+    ∷ (codes "stop", false) ∷ []
+
 abbrev pub reclock_options : Options
 reclock_options = (codes "remap", false) ∷ (codes "data", false) ∷ (codes "operators", true) ∷ []
 
@@ -57,7 +61,8 @@ abbrev pub Commands : Type 0
 Commands = List (List ℕ × Options)
 
 abbrev pub commands : Commands
-commands = (codes "run", shard_options) ∷ (codes "steps", shard_options) ∷ (codes "reclock", reclock_options) ∷ []
+commands = (codes "run", shard_options) ∷ (codes "steps", shard_options) ∷ (codes "ingest", ingest_options)
+    ∷ (codes "reclock", reclock_options) ∷ []
 
 abbrev pub command_named : List ℕ → Commands → Option (List ℕ × Options)
 command_named name table = find (λ e. bytes_eq e.0 name) table

@@ -2,6 +2,7 @@
 #![tactic(auto)]
 
 mod commands;
+mod crews;
 mod faults;
 mod found;
 pub mod laws;

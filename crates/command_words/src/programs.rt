@@ -3,7 +3,7 @@ ghost use Rattle.std.specs.Prelude.{◌≡◌, ◌∷◌, [], IfOk, true, false,
 ghost use Rattle.clap.specs.Walk.{rule_of};
 ghost use Rattle.clap.specs.declared.builder.command.Command.TheViews.{out-Command};
 ghost use Rattle.clap.specs.Simple.{app_of, shape_of, with_rule, with_subcommand};
-ghost use Rattle.command_words.specs.Uses.{commands, reclock_options, shard_options};
+ghost use Rattle.command_words.specs.Uses.{commands, ingest_options, reclock_options, shard_options};
 ghost use Rattle.command_words.specs.Program.{leaf, option_rule, program};
 
 use clap::{Arg, Command};
@@ -37,6 +37,18 @@ fn shard_command<'a>(alloc: Global, name: &'a str) -> Result<Command<'a>, AllocE
     ensures local { IfOk result (λ r. (out-Command r).has_globals ≡ false) }
 {
     with_option(alloc, Command::new(alloc, name), "shard", false)
+}
+
+// The command of a crew.
+fn ingest_command<'a>(alloc: Global) -> Result<Command<'a>, AllocError>
+    ensures shape { IfOk result (λ r. shape_of r ≡ leaf (codes "ingest", ingest_options)) }
+    ensures local { IfOk result (λ r. (out-Command r).has_globals ≡ false) }
+{
+    let command = with_option(alloc, Command::new(alloc, "ingest"), "shard", false)?;
+    let command = with_option(alloc, command, "writers", true)?;
+    let command = with_option(alloc, command, "compactors", true)?;
+    let command = with_option(alloc, command, "collectors", true)?;
+    with_option(alloc, command, "stop", false)
 }
 
 // The command on two shards.
@@ -76,5 +88,6 @@ pub(crate) fn whole_program<'a>(alloc: Global) -> Result<Command<'a>, AllocError
 {
     let program = with_command(bare_program(alloc), shard_command(alloc, "run")?)?;
     let program = with_command(program, shard_command(alloc, "steps")?)?;
+    let program = with_command(program, ingest_command(alloc)?)?;
     with_command(program, reclock_command(alloc)?)
 }

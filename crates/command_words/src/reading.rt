@@ -7,11 +7,12 @@ ghost use Rattle.command_words.specs.declared.commands.CommandWords.{CommandWord
 ghost use Rattle.command_words.specs.declared.faults.WordsFault.TheVariants.{NoCommand};
 
 use crate::commands::CommandWords;
+use crate::crews::ingest_of;
 use crate::faults::WordsFault;
 use crate::found::command_found;
 use crate::values::{count_of, shard_of};
 use clap::ArgMatches;
-use std::alloc::Global;
+use std::alloc::{AllocError, Global};
 
 #[tactic(auto, using(crate::proofs::Readers::run_none))]
 fn run_of(given: &ArgMatches<'_>) -> Option<CommandWords>
@@ -73,41 +74,49 @@ fn reclock_of(given: &ArgMatches<'_>) -> Option<CommandWords>
 }
 
 // The command with this word and these options.
-#[tactic(auto, using(crate::proofs::Readers::unnamed, crate::proofs::Readers::as_named, crate::proofs::Readers::none_named))]
-fn command_of(name: &str, given: &ArgMatches<'_>) -> Option<CommandWords>
-    ensures some { IfSome result (Means name.now (value_in given.now)) }
-    ensures none { IfNone result ((c : CommandWords) → Means name.now (value_in given.now) c → ⊥) }
+#[tactic(auto, using(crate::proofs::Readers::unnamed, crate::proofs::Readers::as_named, crate::proofs::Readers::none_named, crate::proofs::Readers::as_named_ok, crate::proofs::Readers::none_named_ok))]
+fn command_of(
+    alloc: Global,
+    name: &str,
+    given: &ArgMatches<'_>,
+) -> Result<Option<CommandWords>, AllocError>
+    ensures some { IfOk result (λ found. IfSome found (Means name.now (value_in given.now))) }
+    ensures none { IfOk result (λ found. IfNone found ((c : CommandWords) → Means name.now (value_in given.now) c → ⊥)) }
 {
     if name == "run" {
-        return run_of(given);
+        return Ok(run_of(given));
     }
     if name == "steps" {
-        return steps_of(given);
+        return Ok(steps_of(given));
+    }
+    if name == "ingest" {
+        return ingest_of(alloc, given);
     }
     if name == "reclock" {
-        return reclock_of(given);
+        return Ok(reclock_of(given));
     }
-    None
+    Ok(None)
 }
 
 // The command that the matches hold.
-fn command_in(matches: &ArgMatches<'_>) -> Option<CommandWords>
-    ensures some { IfSome result (Reads matches.now) }
-    ensures none { IfNone result ((c : CommandWords) → Reads matches.now c → ⊥) }
+fn command_in(alloc: Global, matches: &ArgMatches<'_>) -> Result<Option<CommandWords>, AllocError>
+    ensures some { IfOk result (λ found. IfSome found (Reads matches.now)) }
+    ensures none { IfOk result (λ found. IfNone found ((c : CommandWords) → Reads matches.now c → ⊥)) }
 {
     match matches.subcommand() {
-        None => None,
-        Some((name, given)) => command_of(name, given),
+        None => Ok(None),
+        Some((name, given)) => command_of(alloc, name, given),
     }
 }
 
 // A command, or the fault that there is none.
-fn answer(found: Option<CommandWords>) -> Result<CommandWords, WordsFault>
+fn answer(found: Result<Option<CommandWords>, AllocError>) -> Result<CommandWords, WordsFault>
     ensures { result ≡ answer_of found }
 {
     match found {
-        Some(command) => Ok(command),
-        None => Err(WordsFault::NoCommand),
+        Ok(Some(command)) => Ok(command),
+        Ok(None) => Err(WordsFault::NoCommand),
+        Err(_) => Err(WordsFault::Memory),
     }
 }
 
@@ -119,6 +128,6 @@ pub fn parse_words(alloc: Global, words: &[String]) -> Result<CommandWords, Word
 {
     match command_found(alloc, words) {
         Err(fault) => Err(fault),
-        Ok(matches) => answer(command_in(&matches)),
+        Ok(matches) => answer(command_in(alloc, &matches)),
     }
 }

@@ -23,7 +23,7 @@ use Rattle.load_core.specs.declared.polls.Poll.{Poll}
 use Rattle.load_core.specs.declared.polls.Poll.TheVariants as polls
 use Rattle.load_core.specs.Fronts.{Backwards, WhereLawful}
 use Rattle.machine_core.specs.Polling.{LegalWhere, Polled}
-use Rattle.state_core.specs.VersionReading.{most}
+use Rattle.update_core.specs.Limits.{most}
 use Rattle.write_client.specs.declared.writers.Writer.{Writer}
 use Rattle.write_client.specs.Machining.{Kept, Legal, command_in, kept, machine}
 use Rattle.write_client.specs.Writing.{IsOpen, shard_of}

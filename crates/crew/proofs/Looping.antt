@@ -23,7 +23,7 @@ use Rattle.crew.specs.declared.ends.WorkerTurn.TheVariants as turns
 use Rattle.crew.specs.Ends.{EndMeans}
 use Rattle.crew.specs.Looping.{EndCounts, StaysBelow}
 use Rattle.crew.specs.Posts.{IsCounted, opened, own_calls}
-use Rattle.crew.specs.Stops.{is_stop}
+use Rattle.stops_core.specs.Stops.{is_stop}
 use Rattle.crew.specs.Turns.{HasFailed, IsFaulted, IsMarked, MakesFew}
 use Rattle.crew.proofs.PortKeeping.{front_is, kept_pass, one_of, rest_is, some_is}
 

@@ -35,7 +35,7 @@ use Rattle.load_core.specs.Setting as setting
 use Rattle.load_core.specs.Trying as trying
 use Rattle.load_core.proofs.SettingFollows.{all_hold, next_is}
 use Rattle.machine_core.specs.Polling.{FollowsWhere, LegalWhere, Polled, Unpolled}
-use Rattle.state_core.specs.VersionReading.{most}
+use Rattle.update_core.specs.Limits.{most}
 use Rattle.token_machine.specs.declared.storings.Storing.{Storing}
 use Rattle.token_machine.specs.Storings.{sets, sets_before}
 use Rattle.token_machine.proofs.Ways.{call_false, call_true, sets_done}

@@ -1,4 +1,3 @@
-pub mod Stops
 pub mod Plans
 pub mod Ends
 pub mod Writing

@@ -31,7 +31,7 @@ use Rattle.crew.specs.Looping.{EndShown, LastFailed}
 use Rattle.crew.specs.Plans.{client_of, first_of, job_in, job_of}
 use Rattle.crew.specs.Pinning.{IsPinLeft, IsPinOf}
 use Rattle.crew.specs.Posts.{opened}
-use Rattle.crew.specs.Stops.{stop_of}
+use Rattle.stops_core.specs.Stops.{stop_of}
 
 -- what an end says of the entries of its client that have come to a history
 abbrev pub CountsAs : ℕ → Option ℕ → WorkerEnd → List Entry → Type 0

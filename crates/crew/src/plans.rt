@@ -2,9 +2,9 @@
 ghost use Rattle.std.specs.Prelude.{◌≡◌, ◌≤◌};
 ghost use Rattle.crew.specs.Plans.{job_of, workers_of};
 
-use crate::stops::StopList;
 use appends_core::AppendList;
 use crew_core::Job;
+use stops_core::StopList;
 use store_core::ShardId;
 
 /// What a crew is to do: which appends are tried on which shard by how many writers, how many compactors and collectors work meanwhile,

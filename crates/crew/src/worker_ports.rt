@@ -7,7 +7,7 @@ ghost use Rattle.shared_store.specs.Fronts.{front_of};
 ghost use Rattle.shared_store.specs.Passes.{PortKept, kept_of};
 ghost use Rattle.shared_store.specs.Trails.{entry_client};
 ghost use Rattle.crew.specs.Posts.{IsCounted, own_calls};
-ghost use Rattle.crew.specs.Stops.{is_stop};
+ghost use Rattle.stops_core.specs.Stops.{is_stop};
 
 use crate::gates::Gate;
 use causes::one_more;

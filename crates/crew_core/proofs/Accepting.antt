@@ -1,7 +1,7 @@
 -- A commit of an append by the client that stored its parts is accepted. Entries go newest first.
 use Rattle.std.proofs.Common.{◌≡◌, ◌+◌, Some, subst}
 use Rattle.state_core.specs.declared.transitions.Transition.{Transition}
-use Rattle.state_core.specs.VersionReading.{version_in}
+use Rattle.version_codec.specs.Reading.{version_in}
 use Rattle.store_core.specs.Newest.{mine_back}
 use Rattle.history_core.specs.Discipline.{StoredAs}
 use Rattle.history_core.proofs.Entries.{lawful_older}

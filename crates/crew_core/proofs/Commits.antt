@@ -13,7 +13,7 @@ use Rattle.state_core.specs.declared.transitions.Transition.{Transition}
 use Rattle.state_core.specs.declared.transitions.Transition.TheVariants.{Init}
 use Rattle.state_core.specs.States.{ShardState}
 use Rattle.state_core.specs.Steps.{Applies, init}
-use Rattle.state_core.specs.VersionReading.{version_in}
+use Rattle.version_codec.specs.Reading.{version_in}
 use Rattle.history_core.specs.Costs.{commits_on}
 use Rattle.history_core.specs.Histories.{ever, same_shard, took_effect}
 use Rattle.history_core.specs.Discipline.{Allows, LawfulBack}

@@ -23,7 +23,7 @@ use Rattle.state_core.specs.declared.transitions.Transition.{Transition}
 use Rattle.state_core.specs.declared.transitions.Transition.TheVariants.{Join, Leave, Merge}
 use Rattle.state_core.specs.States.{ShardState, SinceIs, is_reader, least_since}
 use Rattle.state_core.specs.Steps.{Applies, init, without}
-use Rattle.state_core.specs.VersionReading.{version_in}
+use Rattle.version_codec.specs.Reading.{version_in}
 use Rattle.state_core.proofs.ListLemmas.{bool_cases}
 use Rattle.history_core.specs.Costs.{commits_on}
 use Rattle.history_core.specs.Discipline.{LawfulBack}

@@ -24,11 +24,6 @@ apart a b h = grind (arith, nat_tests)
 below : (a b : ℕ) → nat_lt a b ≡ true → a < b
 below a b h = grind (arith, nat_tests)
 
--- an append ends at Closed or past where it begins
-ends_past : (upper : Option ℕ) (lower b : ℕ) → covers upper lower ≡ true → upper ≡ Some b → lower < b
-ends_past upper lower b c e = below lower b (let h : covers (Some b) lower ≡ true =
-    subst (λ (u : Option ℕ). covers u lower ≡ true) e c in h)
-
 -- those that follow on begin there or later
 pub begins_past : (b : ℕ) (a : FeedAppend) (xs : List FeedAppend) → FollowOn (Some b) xs → Among (λ x. x ≡ a) xs → b ≤ a.lower
 begins_past b a [] f h = absurd h

@@ -17,7 +17,7 @@ use Rattle.state_core.specs.declared.kinds.Kind.TheVariants.{Reader}
 use Rattle.state_core.specs.declared.transitions.Transition.{Transition}
 use Rattle.state_core.specs.declared.transitions.Transition.TheVariants.{Join}
 use Rattle.state_core.specs.States.{ShardState}
-use Rattle.state_core.specs.VersionReading.{version_in}
+use Rattle.version_codec.specs.Reading.{version_in}
 use Rattle.state_core.proofs.ListLemmas.{bool_cases}
 use Rattle.history_core.specs.Legal.{ReaderJoined}
 use Rattle.history_core.specs.Members.{IsKindJoin, JoinedAs, KindJoins}

@@ -15,7 +15,7 @@ use Rattle.state_core.specs.declared.transitions.Transition.{Transition}
 use Rattle.state_core.specs.declared.transitions.Transition.TheVariants.{Merge}
 use Rattle.state_core.specs.States.{ShardState}
 use Rattle.state_core.specs.Steps.{Stands}
-use Rattle.state_core.specs.VersionReading.{version_in}
+use Rattle.version_codec.specs.Reading.{version_in}
 use Rattle.turnstile.specs.Plays.{EachIn}
 use Rattle.turnstile.specs.Rule.{times}
 use Rattle.shared_store.specs.Trails.{entry_client}

@@ -1,5 +1,6 @@
 -- What the competing appends of a feed come to once they are complete. docs/DEFINITIONS.md, "Crews".
 use Rattle.std.specs.Prelude.{◌≡◌, ◌⊎◌, ℕ, ◌+◌, ◌≤◌, ◌^◌, Option, Some, List, [], ◌∷◌}
+use Rattle.update_core.specs.Limits.{max_weight}
 use Rattle.update_core.specs.declared.appends.FeedAppend.{FeedAppend}
 use Rattle.update_core.specs.Collections.{Collection as PlainCollection, after_append, empty_collection}
 use Rattle.update_core.specs.Updates.{weight_of}
@@ -23,7 +24,7 @@ IsBound appends upper = (upper ≡ end_of_feed appends) ⊎ ((a : FeedAppend) ×
 abbrev pub CompleteIsPlain : Type 0
 CompleteIsPlain =
     (appends : List FeedAppend) (c d : PlainCollection) → FollowOn (Some 0) appends →
-    c.weight + weight_of_all (from_upper c.upper appends) ≤ 2 ^ 62 → HasAppended appends c d → d.upper ≡ end_of_feed appends →
+    c.weight + weight_of_all (from_upper c.upper appends) ≤ max_weight → HasAppended appends c d → d.upper ≡ end_of_feed appends →
     d ≡ plain_after c (from_upper c.upper appends)
 
 -- from the empty collection it is the plain one after all appends of the feed

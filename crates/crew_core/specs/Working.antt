@@ -17,7 +17,7 @@ use Rattle.state_core.specs.declared.transitions.Transition.{Transition}
 use Rattle.state_core.specs.declared.transitions.Transition.TheVariants.{Join, Leave, Renew, Append, Merge}
 use Rattle.state_core.specs.Lists.{Among}
 use Rattle.state_core.specs.States.{ShardState}
-use Rattle.state_core.specs.VersionReading.{version_in}
+use Rattle.version_codec.specs.Reading.{version_in}
 use Rattle.history_core.specs.Discipline.{Allows, Hold, StoredAs}
 use Rattle.history_core.specs.Legal.{ReaderJoined}
 use Rattle.history_core.specs.Members.{JoinedAs}

@@ -18,7 +18,7 @@ use Rattle.store_core.specs.Newest.{replay_back, mine_back}
 use Rattle.state_core.specs.States.{ShardState}
 use Rattle.state_core.specs.declared.transitions.Transition.{Transition}
 use Rattle.state_core.specs.declared.transitions.Transition.TheVariants.{Init, Join, Leave, Renew, Advance, Expire, Append, Merge}
-use Rattle.state_core.specs.VersionReading.{version_in}
+use Rattle.version_codec.specs.Reading.{version_in}
 use Rattle.state_core.proofs.ListLemmas.{bool_cases, append-nil}
 use Rattle.history_core.specs.Histories.{same_shard, took_effect, ever}
 use Rattle.history_core.specs.Discipline.{Hold, Holds, StoredAs, IsStored, Allows, CasAllowed, LawfulBack}

@@ -19,7 +19,7 @@ use Rattle.state_core.specs.declared.transitions.Transition.{Transition}
 use Rattle.state_core.specs.declared.transitions.Transition.TheVariants.{Append}
 use Rattle.state_core.specs.States.{ShardState}
 use Rattle.state_core.specs.Steps.{Applies}
-use Rattle.state_core.specs.VersionReading.{version_in}
+use Rattle.version_codec.specs.Reading.{version_in}
 use Rattle.history_core.specs.Histories.{ever, grown}
 use Rattle.history_core.specs.Discipline.{Allows, LawfulBack}
 use Rattle.history_core.specs.Stands.{StandsFor, StateIn, IsLast, accepted, appended, rows_under}

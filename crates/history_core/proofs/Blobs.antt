@@ -18,7 +18,7 @@ use Rattle.store_core.specs.Newest.{replay_back, mine_back}
 use Rattle.state_core.specs.declared.transitions.Transition.{Transition}
 use Rattle.state_core.specs.States.{ShardState, Names}
 use Rattle.state_core.specs.Steps.{Spends}
-use Rattle.state_core.specs.VersionReading.{version_in}
+use Rattle.version_codec.specs.Reading.{version_in}
 use Rattle.history_core.specs.Histories.{ever}
 use Rattle.history_core.specs.Discipline.{IsJoin, Owns, OwnsSome, IsCasUnder, SetsSame, IsStored, IsGot, StoredAs, GotAs, SetAllowed, Allows, LawfulBack}
 use Rattle.history_core.specs.Stands.{StateIn, TakenIn}

@@ -6,7 +6,7 @@ use Rattle.state_core.specs.declared.transitions.Transition.{Transition}
 use Rattle.state_core.specs.declared.transitions.Transition.TheVariants.{Init}
 use Rattle.state_core.specs.States.{ShardState, floor}
 use Rattle.state_core.specs.Steps.{Applies, init}
-use Rattle.state_core.specs.VersionReading.{version_in}
+use Rattle.version_codec.specs.Reading.{version_in}
 use Rattle.history_core.specs.Histories.{version_at}
 use Rattle.history_core.specs.Stands.{read_version, VersionIs, StateIn, end_of, IsLast, IsChain}
 use Rattle.state_core.proofs.Floors.{floor_rises}

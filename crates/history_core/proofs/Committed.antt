@@ -16,7 +16,7 @@ use Rattle.state_core.specs.declared.transitions.Transition.{Transition}
 use Rattle.state_core.specs.declared.transitions.Transition.TheVariants.{Init, Join, Leave, Renew, Advance, Expire, Append, Merge}
 use Rattle.state_core.specs.States.{ShardState}
 use Rattle.state_core.specs.Steps.{Spends, acts_for}
-use Rattle.state_core.specs.VersionReading.{version_in}
+use Rattle.version_codec.specs.Reading.{version_in}
 use Rattle.history_core.specs.Histories.{ever}
 use Rattle.history_core.specs.Discipline.{IsJoin, Owns, OwnsSome, SpendsIn, IsCasUnder, Allows, LawfulBack}
 use Rattle.history_core.specs.Spending.{is_spending, is_commit_under, commits_under}

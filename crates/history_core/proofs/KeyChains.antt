@@ -7,8 +7,8 @@ use Rattle.state_core.specs.declared.transitions.Transition.{Transition}
 use Rattle.state_core.specs.declared.transitions.Transition.TheVariants.{Init}
 use Rattle.state_core.specs.States.{ShardState, IsState, KeyFits, Names}
 use Rattle.state_core.specs.Steps.{Takes, Adds, init}
-use Rattle.state_core.specs.VersionReading.{version_in}
-use Rattle.state_core.proofs.VersionFacts.{version_in_state, version_in_shard}
+use Rattle.version_codec.specs.Reading.{version_in}
+use Rattle.version_codec.proofs.Facts.{version_in_state, version_in_shard}
 use Rattle.history_core.specs.Histories.{version_at}
 use Rattle.history_core.specs.Stands.{VersionIs, end_of, KeysIn}
 use Rattle.state_core.proofs.Keys.{fits_on, names_fit, named_after, added_fresh, taken_named, taken_unnamed}

@@ -12,7 +12,7 @@ use Rattle.store_core.proofs.NewestLaws.{replay-newest, mine-newest}
 use Rattle.state_core.specs.declared.transitions.Transition.{Transition}
 use Rattle.state_core.specs.States.{ShardState}
 use Rattle.state_core.specs.Steps.{Takes}
-use Rattle.state_core.specs.VersionReading.{version_in}
+use Rattle.version_codec.specs.Reading.{version_in}
 use Rattle.history_core.specs.Histories.{Shows, version_at, ever}
 use Rattle.history_core.specs.Discipline.{Owns, TakesIn}
 use Rattle.history_core.specs.Stands.{StandsFor}

@@ -19,7 +19,7 @@ use Rattle.state_core.specs.declared.kinds.Kind.{Kind}
 use Rattle.state_core.specs.declared.kinds.Kind.TheVariants.{Writer}
 use Rattle.state_core.specs.declared.transitions.Transition.{Transition}
 use Rattle.state_core.specs.States.{ShardState}
-use Rattle.state_core.specs.VersionReading.{version_in}
+use Rattle.version_codec.specs.Reading.{version_in}
 use Rattle.state_core.proofs.ListLemmas.{bool_cases, among_map}
 use Rattle.history_core.specs.Histories.{took_effect, ever, grown}
 use Rattle.history_core.specs.Discipline.{IsJoin, Owns, OwnsSome, Allows, LawfulBack}

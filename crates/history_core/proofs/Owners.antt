@@ -19,7 +19,7 @@ use Rattle.state_core.specs.declared.transitions.Transition.{Transition}
 use Rattle.state_core.specs.declared.transitions.Transition.TheVariants.{Init, Join, Leave, Renew, Advance, Expire, Append, Merge}
 use Rattle.state_core.specs.States.{ShardState}
 use Rattle.state_core.specs.Steps.{acts_for, init}
-use Rattle.state_core.specs.VersionReading.{version_in}
+use Rattle.version_codec.specs.Reading.{version_in}
 use Rattle.history_core.specs.Histories.{version_at, Told, Shows, ever}
 use Rattle.history_core.specs.Discipline.{JoinsAs, IsJoin, Owns, OwnsSome, Holds, Allows}
 use Rattle.history_core.specs.Stands.{VersionIs, end_of}

@@ -12,7 +12,7 @@ use Rattle.spine_core.specs.Contents.{held}
 use Rattle.state_core.specs.States.{ShardState, IsState, floor, keys_of}
 use Rattle.state_core.specs.declared.transitions.Transition.{Transition}
 use Rattle.state_core.proofs.ListLemmas.{bool_cases}
-use Rattle.state_core.proofs.VersionFacts.{version_in_state}
+use Rattle.version_codec.proofs.Facts.{version_in_state}
 use Rattle.history_core.specs.Histories.{version_at}
 use Rattle.history_core.specs.Stands.{Collection, StateAt, PartRows, BatchHolds, read_version}
 use Rattle.history_core.specs.Questions.{begun_by, ending_past}

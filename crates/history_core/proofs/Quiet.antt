@@ -13,7 +13,7 @@ use Rattle.store_core.specs.Ports.{with_entries}
 use Rattle.store_core.specs.Newest.{replay_back}
 use Rattle.store_core.proofs.NewestLaws.{replay-newest}
 use Rattle.state_core.specs.States.{ShardState}
-use Rattle.state_core.specs.VersionReading.{version_in}
+use Rattle.version_codec.specs.Reading.{version_in}
 use Rattle.state_core.proofs.ListLemmas.{bool_cases, append-nil}
 use Rattle.history_core.specs.Histories.{version_at}
 use Rattle.history_core.specs.Stands.{IsLast, end_of, appended, appended_by, accepted}

@@ -8,25 +8,11 @@ use Rattle.update_core.specs.declared.updates.Update.{Update}
 use Rattle.part_codec.specs.declared.part_faults.PartFault.{PartFault}
 use Rattle.part_codec.specs.Parts.{NonZero, Part, Rising}
 use Rattle.part_codec.specs.Reading.{all_of}
-use Rattle.store_core.specs.ByteLists.{IsBytes}
+use Rattle.byte_core.proofs.ByteLists.{bytes_of_test, test_of_bytes}
+use Rattle.byte_core.specs.ByteLists.{IsBytes}
 use Rattle.part_codec.proofs.Parts.{all_again, is_found}
-use Rattle.history_core.specs.Readings.{rows_in, are_bytes}
-
-both : (a b : Bool) → a && b ≡ true → (a ≡ true) × (b ≡ true)
-both true true h = (refl, refl)
-both true false h = cc
-both false b h = cc
-
-bytes_of_test : (bytes : List ℕ) → are_bytes bytes ≡ true → IsBytes bytes
-bytes_of_test [] h i = omega arith
-bytes_of_test (b ∷ bs) h zero = ltb-true b 256 (both (nat_lt b 256) (are_bytes bs) h).0
-bytes_of_test (b ∷ bs) h (suc i) = bytes_of_test bs (both (nat_lt b 256) (are_bytes bs) h).1 i
-
-test_of_bytes : (bytes : List ℕ) → IsBytes bytes → are_bytes bytes ≡ true
-test_of_bytes [] h = refl
-test_of_bytes (b ∷ bs) h =
-    let first : b < 256 = h 0 in
-    ap (λ (t : Bool). t && are_bytes bs) (le-leb (suc b) 256 first) ∙ test_of_bytes bs (λ i. h (suc i))
+use Rattle.history_core.specs.Readings.{rows_in}
+use Rattle.byte_core.specs.ByteLists.{are_bytes}
 
 ok_from : (r : Result (List Update) PartFault) (rows : List Update) → result_ok r ≡ Some rows → r ≡ Ok rows
 ok_from (Ok found) rows h = let same : found ≡ rows = cc in ap (λ (x : List Update). Ok x) same

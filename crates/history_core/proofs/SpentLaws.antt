@@ -18,7 +18,7 @@ use Rattle.state_core.specs.declared.transitions.Transition.{Transition}
 use Rattle.state_core.specs.declared.transitions.Transition.TheVariants.{Init, Join, Leave, Renew, Advance, Expire, Append, Merge}
 use Rattle.state_core.specs.States.{ShardState}
 use Rattle.state_core.specs.Steps.{Spends, acts_for}
-use Rattle.state_core.specs.VersionReading.{version_in}
+use Rattle.version_codec.specs.Reading.{version_in}
 use Rattle.history_core.specs.Histories.{took_effect, same_shard, ever}
 use Rattle.history_core.specs.Discipline.{IsJoin, Owns, OwnsSome, CasAllowed, Allows, LawfulBack}
 use Rattle.history_core.specs.Stands.{StandsFor, StateIn, end_of}

@@ -10,7 +10,7 @@ use Rattle.store_core.specs.Newest.{replay_back, mine_back}
 use Rattle.state_core.specs.Lists.{Among}
 use Rattle.state_core.specs.declared.transitions.Transition.{Transition}
 use Rattle.state_core.specs.States.{ShardState, floor}
-use Rattle.state_core.specs.VersionReading.{version_in}
+use Rattle.version_codec.specs.Reading.{version_in}
 use Rattle.history_core.proofs.StateFacts.{state_number}
 use Rattle.state_core.proofs.Floors.{floor_top}
 use Rattle.history_core.specs.Histories.{version_at, ever}

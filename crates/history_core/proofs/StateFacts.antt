@@ -5,8 +5,8 @@ use Rattle.store_core.specs.Stores.{Log, no_log, committed}
 use Rattle.state_core.specs.declared.transitions.Transition.TheVariants.{Init}
 use Rattle.state_core.specs.States.{ShardState, IsState}
 use Rattle.state_core.specs.Steps.{init}
-use Rattle.state_core.specs.VersionReading.{version_in}
-use Rattle.state_core.proofs.VersionFacts.{version_in_state, version_in_shard, version_in_number}
+use Rattle.version_codec.specs.Reading.{version_in}
+use Rattle.version_codec.proofs.Facts.{version_in_state, version_in_shard, version_in_number}
 use Rattle.history_core.specs.Stands.{StateIn, VersionIs, IsLast, end_of}
 use Rattle.history_core.proofs.Logs.{end_of-committed}
 use Rattle.history_core.proofs.Chains.{Commit, after_commit, version_below, one_state, bytes_of}

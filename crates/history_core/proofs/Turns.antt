@@ -16,7 +16,7 @@ use Rattle.store_core.specs.Newest.{replay_back, mine_back}
 use Rattle.state_core.specs.declared.transitions.Transition.{Transition}
 use Rattle.state_core.specs.States.{ShardState, floor}
 use Rattle.state_core.specs.Steps.{Takes}
-use Rattle.state_core.specs.VersionReading.{version_in}
+use Rattle.version_codec.specs.Reading.{version_in}
 use Rattle.history_core.specs.Histories.{version_at, took_effect, Told, Shows, ever}
 use Rattle.history_core.specs.Discipline.{TakesIn, TakenUpTo, NewestIs, IsScanTaking, IsScanCovering, Allows, LawfulBack}
 use Rattle.history_core.specs.Stands.{VersionIs, StateIn, TakenIn}

@@ -6,7 +6,7 @@ use Rattle.update_core.specs.declared.updates.Update.{Update}
 use Rattle.store_core.specs.declared.part_keys.PartKey.{PartKey}
 use Rattle.store_core.specs.Stores.{Stored}
 use Rattle.part_codec.specs.Reading.{all_of}
-use Rattle.store_core.specs.ByteLists.{IsBytes}
+use Rattle.byte_core.specs.ByteLists.{IsBytes}
 use Rattle.history_core.specs.Readings.{rows_in}
 use Rattle.history_core.specs.Stands.{rows_under, rows_of_blob, rows_or_none}
 use Rattle.history_core.proofs.ReadingFacts.{rows_in_bytes}

@@ -15,7 +15,7 @@ use Rattle.state_core.specs.declared.transitions.Transition.TheVariants.{Append}
 use Rattle.state_core.specs.Lists.{Among}
 use Rattle.state_core.specs.States.{ShardState, keys_of}
 use Rattle.state_core.specs.Steps.{Stands}
-use Rattle.state_core.specs.VersionReading.{version_in}
+use Rattle.version_codec.specs.Reading.{version_in}
 use Rattle.history_core.specs.declared.asked.Asked.{Asked}
 use Rattle.history_core.specs.declared.asked.Asked.TheVariants as asks
 use Rattle.history_core.specs.declared.write_answers.WriteAnswer.{WriteAnswer}

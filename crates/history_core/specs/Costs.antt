@@ -50,15 +50,15 @@ Within made remaining base foreign failed = made + remaining ≤ base + 2 * (for
 abbrev pub WithinReads : ℕ → ℕ → ℕ → ℕ → Type 0
 WithinReads made remaining base failed = made + remaining ≤ base + failed
 
--- the base of an open, a close, a renew, an advance and an expiry
+-- ---- the bases, by what is asked: of a change of members, an open, a close, a renewal, an advance or an expiry
 abbrev pub change_base : ℕ
 change_base = 3
 
--- the base of an append of so many parts
+-- of an append of so many parts
 abbrev pub append_base : ℕ → ℕ
-append_base parts = parts + 3
+append_base parts = parts + change_base
 
--- the base of a snapshot or a listen that reads so many parts
+-- of a snapshot or a listen that reads so many parts
 abbrev pub read_base : ℕ → ℕ
 read_base parts = parts + 2
 
@@ -70,7 +70,7 @@ snapshot_parts t s = length (snapshot_keys t s)
 abbrev pub step_parts : Option ℕ → ShardState → ℕ
 step_parts f s = length (step_keys f s)
 
--- the base of a merge that gets so many parts and sets so many
+-- of a merge that gets so many parts and sets so many
 abbrev pub merge_base : ℕ → ℕ → ℕ
 merge_base got set = got + set + 2
 
@@ -78,6 +78,6 @@ merge_base got set = got + set + 2
 abbrev pub merge_parts : Batch → Batch → ℕ
 merge_parts left right = length (left.parts ++ right.parts)
 
--- the base of a collection of so many taken keys
+-- of a collection of so many taken keys
 abbrev pub collect_base : ℕ → ℕ
 collect_base keys = keys + 2

@@ -22,7 +22,7 @@ use Rattle.state_core.specs.declared.transitions.Transition.TheVariants.{Init, J
 use Rattle.state_core.specs.Lists.{Among}
 use Rattle.state_core.specs.States.{ShardState, floor}
 use Rattle.state_core.specs.Steps.{Applies, Takes, Spends, acts_for, init}
-use Rattle.state_core.specs.VersionReading.{version_in}
+use Rattle.version_codec.specs.Reading.{version_in}
 use Rattle.history_core.specs.Readings.{rows_in}
 use Rattle.history_core.specs.Histories.{Shows}
 

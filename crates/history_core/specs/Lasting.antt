@@ -7,7 +7,7 @@ use Rattle.store_core.specs.declared.entries.Entry.{Entry}
 use Rattle.store_core.specs.Histories.{History, store_after}
 use Rattle.store_core.specs.Ports.{with_entries}
 use Rattle.state_core.specs.States.{ShardState, Names}
-use Rattle.state_core.specs.VersionReading.{version_in}
+use Rattle.version_codec.specs.Reading.{version_in}
 use Rattle.history_core.specs.Histories.{Shows}
 use Rattle.history_core.specs.Discipline.{ShowsState, Owns, TakesIn, DeletedBy, Lawful}
 use Rattle.history_core.specs.Stands.{StandsFor}

@@ -2,6 +2,7 @@
 -- Entries go newest first.
 use Rattle.std.specs.Prelude.{◌≡◌, ℕ, ◌+◌, ◌<◌, List, ◌∷◌, length, reverse, Option, IsSomeAnd, ◌⊎◌, ⊤}
 use Rattle.std.specs.List.{AllByRecursion}
+use Rattle.update_core.specs.Limits.{max_members}
 use Rattle.update_core.specs.declared.updates.Update.{Update}
 use Rattle.update_core.specs.Frontiers.{after}
 use Rattle.update_core.specs.Updates.{weight_of}
@@ -69,7 +70,7 @@ Absent start shard member version ps = AtLastScan shard (AtLast start shard (λ 
 
 -- at the last Scan, of this version, 256 members stand
 abbrev pub Full : Stored → ShardId → ℕ → List Placed → Type 0
-Full start shard version ps = AtLastScan shard (AtLast start shard (λ n s. (n ≡ version) × (length s.members ≡ 256))) ps
+Full start shard version ps = AtLastScan shard (AtLast start shard (λ n s. (n ≡ version) × (length s.members ≡ max_members))) ps
 
 -- a Cas committed the leave as this version, or at the last Scan, of this version, the member is absent
 abbrev pub Left : Stored → ShardId → ℕ → ℕ → List Placed → Type 0

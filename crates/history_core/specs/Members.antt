@@ -16,7 +16,7 @@ use Rattle.state_core.specs.declared.transitions.Transition.{Transition}
 use Rattle.state_core.specs.declared.transitions.Transition.TheVariants.{Join, Leave}
 use Rattle.state_core.specs.States.{ShardState, is_writer}
 use Rattle.state_core.specs.Steps.{Stands}
-use Rattle.state_core.specs.VersionReading.{version_in}
+use Rattle.version_codec.specs.Reading.{version_in}
 use Rattle.history_core.specs.Discipline.{Lawful}
 use Rattle.history_core.specs.Stands.{StandsFor}
 use Rattle.history_core.specs.Laws.{LastIs}

@@ -14,7 +14,7 @@ use Rattle.store_core.specs.Newest.{replay_back}
 use Rattle.state_core.specs.declared.transitions.Transition.{Transition}
 use Rattle.state_core.specs.Lists.{Among}
 use Rattle.state_core.specs.States.{ShardState}
-use Rattle.state_core.specs.VersionReading.{version_in}
+use Rattle.version_codec.specs.Reading.{version_in}
 use Rattle.history_core.specs.Histories.{took_effect}
 use Rattle.history_core.specs.Discipline.{IsCasUnder, IsGot}
 

@@ -19,7 +19,7 @@ use Rattle.state_core.specs.declared.transitions.Transition.{Transition}
 use Rattle.state_core.specs.declared.transitions.Transition.TheVariants.{Init, Append}
 use Rattle.state_core.specs.States.{ShardState, floor, Names, KeyFits}
 use Rattle.state_core.specs.Steps.{Applies, Takes, init}
-use Rattle.state_core.specs.VersionReading.{version_in}
+use Rattle.version_codec.specs.Reading.{version_in}
 use Rattle.history_core.specs.Readings.{rows_in}
 use Rattle.history_core.specs.Histories.{version_at, took_effect, same_shard}
 use Rattle.history_core.specs.Discipline.{Hold}

@@ -22,7 +22,7 @@ use Rattle.state_core.specs.Lists.{Among}
 use Rattle.state_core.specs.Refusals.{follows}
 use Rattle.state_core.specs.States.{ShardState, floor}
 use Rattle.state_core.specs.Steps.{Stands, is_out}
-use Rattle.state_core.specs.VersionReading.{version_in}
+use Rattle.version_codec.specs.Reading.{version_in}
 use Rattle.history_core.specs.declared.asked.Asked.{Asked}
 use Rattle.history_core.specs.declared.asked.Asked.TheVariants as asks
 use Rattle.history_core.specs.declared.merge_answers.MergeAnswer.{MergeAnswer}

@@ -1,7 +1,8 @@
 // Laws of histories, each the contract of a function that does nothing.
 ghost use Rattle.std.specs.Prelude.{◌≡◌, ◌↔◌, ◌+◌, ◌++◌, ◌∷◌, false, true, List, Option, Some, ℕ};
 ghost use Rattle.part_codec.specs.Parts.{Part};
-ghost use Rattle.history_core.specs.Readings.{are_bytes, rows_in};
+ghost use Rattle.history_core.specs.Readings.{rows_in};
+ghost use Rattle.byte_core.specs.ByteLists.{are_bytes};
 ghost use Rattle.store_core.specs.declared.entries.Entry.{Entry};
 ghost use Rattle.store_core.specs.declared.shards.ShardId.{ShardId};
 ghost use Rattle.store_core.specs.Stores.{Stored};

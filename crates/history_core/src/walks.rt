@@ -3,8 +3,8 @@ ghost use Rattle.std.specs.Prelude.{◌≡◌, ◌++◌, Some, None, [], List, R
 ghost use Rattle.store_core.specs.Stores.{key_cmp, set_at};
 ghost use Rattle.store_core.specs.Contents.{blobs_of};
 ghost use Rattle.state_core.specs.States.{ShardState};
-ghost use Rattle.state_core.specs.VersionReading.{whole, version_in};
-ghost use Rattle.state_core.specs.VersionReading as versions;
+ghost use Rattle.version_codec.specs.Reading.{whole, version_in};
+ghost use Rattle.version_codec.specs.Reading as versions;
 ghost use Rattle.state_core.specs.declared.transitions.Transition.{Transition as Step};
 ghost use Rattle.std.specs.Result.{result_ok};
 ghost use Rattle.update_core.specs.declared.updates.Update.{Update};
@@ -14,11 +14,12 @@ ghost use Rattle.history_core.specs.Stands.{appended_by, rows_under, rows_of_blo
 ghost use Rattle.history_core.specs.Walks.{number_given, number_past, rows_given, with_blobs};
 
 use part_codec::{PartFault, decode_part};
-use state_core::{State, Transition, VersionFault, decode_version};
+use state_core::{State, Transition};
 use std::alloc::{AllocError, Global};
 use std::collections::BTreeMap;
 use store_core::{Bytes, Call, Entry, Outcome, PartKey, ShardId};
 use update_core::UpdateList;
+use version_codec::{VersionFault, decode_version};
 
 /// The number of the last version, once a Cas has committed; the bytes of the keys that were set; and a list with the rows
 /// that were appended.
@@ -101,7 +102,7 @@ fn no_version_or_memory(fault: VersionFault) -> Result<Option<(State, Transition
 }
 
 // The state and transition of a version, if the bytes spell one.
-#[tactic(auto, unfolding(state_core::specs::VersionReading::version_in))]
+#[tactic(auto, unfolding(version_codec::specs::Reading::version_in))]
 fn version_of(
     alloc: Global,
     shard: ShardId,

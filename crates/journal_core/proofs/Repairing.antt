@@ -16,11 +16,6 @@ turns : (how : DiskState → DiskState → Type 0) (old new : Option DiskHistory
 turns how None new told = told
 turns how (Some h) new told = told
 
-told_turns : (how : DiskState → DiskState → Type 0) (old new : Option DiskHistory) → Turns how old new
-    → Told (λ h k. how h.now k.now) old new
-told_turns how None new turn = turn
-told_turns how (Some h) new turn = turn
-
 -- the disk is as it was
 abbrev Unmoved : DiskState → DiskState → Type 0
 Unmoved old new = new ≡ old

@@ -6,8 +6,8 @@ use Rattle.store_core.specs.declared.calls.Call.TheVariants as calls
 use Rattle.store_core.specs.declared.replies.Reply.{Reply}
 use Rattle.store_core.specs.declared.replies.Reply.TheVariants as replies
 use Rattle.state_core.specs.States.{ShardState}
-use Rattle.state_core.specs.VersionReading.{version_in}
-use Rattle.state_core.proofs.VersionFacts.{version_in_shard}
+use Rattle.version_codec.specs.Reading.{version_in}
+use Rattle.version_codec.proofs.Facts.{version_in_shard}
 use Rattle.load_core.specs.declared.attempts.Attempt.TheVariants as attempts
 use Rattle.load_core.specs.declared.damages.Damage.{Damage}
 use Rattle.load_core.specs.declared.nexts.Next.{Next}

@@ -3,13 +3,14 @@ ghost use Rattle.store_core.specs.Histories.{IsScanFrom};
 ghost use Rattle.load_core.specs.Trying.{IsSound};
 
 use load_core::*;
-use state_core::{Kind, Transition, VersionFault};
+use state_core::{Kind, Transition};
 use std::alloc::Global;
 use std::test::Fail;
 use store_core::{
     Bytes, DirectPort, FaultAt, FaultList, MemStore, Port, Reply, ShardId, Turn, Version,
     VersionList,
 };
+use version_codec::VersionFault;
 
 const SHARD: ShardId = ShardId(1);
 

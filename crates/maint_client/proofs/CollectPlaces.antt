@@ -20,7 +20,7 @@ use Rattle.store_core.specs.Stores.{Stored, reply_of}
 use Rattle.store_core.specs.Histories.{faults_of, reply_by}
 use Rattle.store_core.specs.Ports.{Answered}
 use Rattle.store_core.specs.Newest.{mine_back, replay_back}
-use Rattle.state_core.specs.VersionReading.{most}
+use Rattle.update_core.specs.Limits.{most}
 use Rattle.state_core.proofs.ListLemmas.{among_map, each_at}
 use Rattle.history_core.specs.declared.asked.Asked.{Asked}
 use Rattle.history_core.specs.declared.collect_answers.CollectAnswer.{CollectAnswer}

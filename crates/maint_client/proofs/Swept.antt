@@ -16,7 +16,7 @@ use Rattle.store_core.specs.Ports.{Answered, OfOthers}
 use Rattle.store_core.specs.Newest.{mine_back, replay_back}
 use Rattle.state_core.specs.Lists.{Among}
 use Rattle.state_core.specs.States.{ShardState, floor}
-use Rattle.state_core.specs.VersionReading.{most}
+use Rattle.update_core.specs.Limits.{most}
 use Rattle.state_core.proofs.ListLemmas.{among_map, each_at, each_map}
 use Rattle.history_core.specs.Discipline.{AllDeleted, DeletedBy, IsDeleted, IsScanCovering, IsScanTaking, NewestIs, TakenUpTo}
 use Rattle.history_core.specs.Placing.{AtLastScan, IsAnsweredScan, Placed, placed, places, reply_at}

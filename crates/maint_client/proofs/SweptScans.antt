@@ -19,7 +19,8 @@ use Rattle.state_core.specs.declared.transitions.Transition.{Transition}
 use Rattle.state_core.specs.Lists.{Among}
 use Rattle.state_core.specs.States.{ShardState, floor}
 use Rattle.state_core.specs.Steps.{Takes}
-use Rattle.state_core.specs.VersionReading.{most, version_in}
+use Rattle.version_codec.specs.Reading.{version_in}
+use Rattle.update_core.specs.Limits.{most}
 use Rattle.state_core.proofs.Floors.{floor_top}
 use Rattle.state_core.proofs.ListLemmas.{each_at, each_intro}
 use Rattle.history_core.specs.Discipline.{DeletedBy, LawfulBack, TakenUpTo, TakesIn}

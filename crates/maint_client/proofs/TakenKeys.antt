@@ -9,11 +9,11 @@ use Rattle.store_core.specs.declared.part_keys.PartKey.{PartKey}
 use Rattle.store_core.specs.declared.versions.Version.{Version}
 use Rattle.store_core.specs.Stores.{key_cmp}
 use Rattle.state_core.specs.declared.transitions.Transition.{Transition}
-use Rattle.state_core.specs.declared.version_faults.VersionFault.{VersionFault}
+use Rattle.version_codec.specs.declared.version_faults.VersionFault.{VersionFault}
 use Rattle.state_core.specs.Lists.{Among}
 use Rattle.state_core.specs.States.{ShardState, floor}
 use Rattle.state_core.specs.Steps.{taken_by}
-use Rattle.state_core.specs.VersionReading.{read_version, version_in, whole}
+use Rattle.version_codec.specs.Reading.{read_version, version_in, whole}
 use Rattle.state_core.proofs.ListLemmas.{among_back, among_front, among_split, bool_cases}
 use Rattle.history_core.specs.Discipline.{NewestIs, TakenUpTo, TakesIn}
 use Rattle.history_core.specs.Upkeep.{FloorIs}

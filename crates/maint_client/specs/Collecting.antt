@@ -12,7 +12,7 @@ use Rattle.store_core.specs.declared.entries.Entry.{Entry}
 use Rattle.store_core.specs.Stores.{Stored}
 use Rattle.store_core.specs.Newest.{mine_back, replay_back}
 use Rattle.state_core.specs.Lists.{Among}
-use Rattle.state_core.specs.VersionReading.{most}
+use Rattle.update_core.specs.Limits.{most}
 use Rattle.history_core.specs.declared.asked.Asked.{Asked}
 use Rattle.history_core.specs.declared.asked.Asked.TheVariants as asks
 use Rattle.history_core.specs.declared.collect_answers.CollectAnswer.{CollectAnswer}
@@ -212,7 +212,7 @@ collecting = record {
   Spares = λ c call. ⊤;
   Legal = λ client k calls answer start es list.
       IfSome k.asked (λ a. LegalCollectBack start es (command client k calls a) answer);
-  least = 2;
+  least = collect_base 0;
   CostAt = λ base client c start es list. c.calls < most → CostBy client c.calls c.sweep es;
   CostOver = λ base client old new start es list. new.calls < most → CostEnded client new.shard new.calls start es;
 }

@@ -10,10 +10,10 @@ use Rattle.store_core.specs.declared.calls.Call.{Call}
 use Rattle.store_core.specs.declared.calls.Call.TheVariants as calls
 use Rattle.store_core.specs.Stores.{key_cmp}
 use Rattle.state_core.specs.declared.transitions.Transition.{Transition}
-use Rattle.state_core.specs.declared.version_faults.VersionFault.{VersionFault}
+use Rattle.version_codec.specs.declared.version_faults.VersionFault.{VersionFault}
 use Rattle.state_core.specs.States.{ShardState, floor}
 use Rattle.state_core.specs.Steps.{taken_by}
-use Rattle.state_core.specs.VersionReading.{read_version}
+use Rattle.version_codec.specs.Reading.{read_version}
 use Rattle.load_core.specs.declared.damages.Damage.{Damage}
 use Rattle.load_core.specs.declared.damages.Damage.TheVariants as damages
 use Rattle.load_core.specs.declared.readings.Unread.{Unread}
@@ -72,10 +72,6 @@ abbrev pub sweep_of : ShardId → List Version → Result Sweep Damage
 sweep_of shard vs = sweep_under shard vs (newest_after shard None vs)
 
 -- ---- what is left
-
--- a key is left to be deleted
-abbrev pub IsDeleting : Sweep → Type 0
-IsDeleting w = w.place < length w.keys
 
 -- whether anything is left: a key, or versions below the floor
 abbrev pub goes_on : Sweep → Bool

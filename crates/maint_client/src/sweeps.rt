@@ -1,16 +1,17 @@
 // Sweep: what is left of a collection after its Scan.
 ghost use Rattle.std.specs.Prelude.{◌≡◌, ◌≤◌, ◌^◌, [], IfOk, OnOk, length};
 ghost use Rattle.state_core.specs.Steps.{taken_by};
-ghost use Rattle.state_core.specs.VersionReading.{read_version};
+ghost use Rattle.version_codec.specs.Reading.{read_version};
 ghost use Rattle.maint_client.specs.Sweeping.{AddsVersion, Gives, GoesOnWith};
 ghost use Rattle.maint_client.specs.Sweeping.{begins_below, goes_on, has_key, sweep_call, sweep_from, sweep_of};
 ghost use Rattle.maint_client.specs.Sweeping.{swept, taken_after, with_keys};
 
 use load_core::{Damage, Unread, newest_of};
 use spine_core::KeyList;
-use state_core::{Transition, VersionFault, decode_version};
+use state_core::Transition;
 use std::alloc::{AllocError, Global};
 use store_core::{Call, PartKey, ShardId, Version};
+use version_codec::{VersionFault, decode_version};
 
 /// The greatest count of keys of one collection. More of them are want of memory.
 const MAX_KEYS: usize = 1 << 62;

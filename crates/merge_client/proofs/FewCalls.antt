@@ -13,7 +13,7 @@ use Rattle.spine_core.specs.declared.batches.Batch.{Batch}
 use Rattle.spine_core.specs.Spines.{rows_of}
 use Rattle.state_core.specs.declared.kinds.Kind.TheVariants.{Keeper}
 use Rattle.state_core.specs.States.{ShardState}
-use Rattle.state_core.proofs.VersionFacts.{version_in_state}
+use Rattle.version_codec.proofs.Facts.{version_in_state}
 use Rattle.state_core.specs.declared.transitions.Transition.{Transition}
 use Rattle.state_core.specs.declared.transitions.Transition.TheVariants.{Init, Join, Leave, Renew}
 use Rattle.update_core.specs.Updates.{moved}

@@ -43,11 +43,6 @@ pub going_out : (k : Tried) → IsGoing k → IsNotIn k
 going_out (tries.Committed version) g = g
 going_out other g = tt
 
-merge_ends : (c : Compactor) (refusal : Refusal) → ¬ GoesOn (merge_refused c refusal)
-merge_ends c refusals.NotPresent g = g
-merge_ends c refusals.NoMember g = g
-merge_ends c other g = g
-
 token_ends : (c : Compactor) (refusal : Refusal) → ¬ GoesOn (merge_poll c (token_outcome c.storing.trying c.token refusal))
 token_ends c (refusals.TokenOld last) g = elim (bool_cases ((last == c.token) && c.storing.trying.failed)) [
   | inl h ↦ let k : ⊥ = rw h at g in k

@@ -9,7 +9,7 @@ use Rattle.store_core.specs.Histories.{reply}
 use Rattle.store_core.specs.Stores.{Stored}
 use Rattle.store_core.specs.Ports.{OfOthers}
 use Rattle.store_core.specs.Newest.{replay_back}
-use Rattle.state_core.specs.VersionReading.{most}
+use Rattle.update_core.specs.Limits.{most}
 use Rattle.history_core.specs.declared.asked.Asked.{Asked}
 use Rattle.history_core.specs.declared.merge_answers.MergeAnswer.{MergeAnswer}
 use Rattle.history_core.specs.Discipline.{LawfulBack}

@@ -11,9 +11,9 @@ use Rattle.store_core.specs.declared.entries.Entry.{Entry}
 use Rattle.store_core.specs.Stores.{Stored}
 use Rattle.store_core.specs.Ports.{Answered}
 use Rattle.store_core.specs.Newest.{mine_back}
-use Rattle.store_core.specs.ByteLists.{IsBytes}
+use Rattle.byte_core.specs.ByteLists.{IsBytes}
 use Rattle.state_core.specs.declared.kinds.Kind.TheVariants.{Keeper}
-use Rattle.state_core.specs.VersionReading.{most}
+use Rattle.update_core.specs.Limits.{most}
 use Rattle.state_core.specs.declared.transitions.Transition.{Transition}
 use Rattle.state_core.specs.declared.transitions.Transition.TheVariants.{Join, Leave, Renew}
 use Rattle.history_core.specs.declared.asked.Asked.{Asked}

@@ -20,9 +20,9 @@ use Rattle.state_core.specs.declared.transitions.Transition.TheVariants.{Merge}
 use Rattle.state_core.specs.Lists.{Among}
 use Rattle.state_core.specs.Refusals.{follows, is_keeper, is_shaped, member_of}
 use Rattle.state_core.specs.States.{ShardState}
-use Rattle.state_core.specs.VersionReading.{most}
+use Rattle.update_core.specs.Limits.{most}
 use Rattle.state_core.proofs.ListLemmas.{bool_cases}
-use Rattle.state_core.proofs.VersionFacts.{version_in_state}
+use Rattle.version_codec.proofs.Facts.{version_in_state}
 use Rattle.history_core.specs.declared.asked.Asked.{Asked}
 use Rattle.history_core.specs.declared.asked.Asked.TheVariants as asks
 use Rattle.history_core.specs.declared.merge_answers.MergeAnswer.{MergeAnswer}

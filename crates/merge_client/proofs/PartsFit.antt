@@ -62,17 +62,8 @@ use Rattle.merge_client.proofs.Reading.{lent, member_of_it, read_is}
 
 -- ---- where the part at a place belongs
 
-less_true : (a b : ℕ) → a < b → nat_lt a b ≡ true
-less_true a b h = grind (arith, nat_tests)
-
 less_false : (a b : ℕ) → b ≤ a → nat_lt a b ≡ false
 less_false a b h = grind (arith, nat_tests)
-
-least_true : (a b : ℕ) → a ≤ b → nat_le a b ≡ true
-least_true a b h = grind (arith, nat_tests)
-
-least_false : (a b : ℕ) → b < a → nat_le a b ≡ false
-least_false a b h = grind (arith, nat_tests)
 
 less_back : (a b : ℕ) → nat_lt a b ≡ true → a < b
 less_back a b h = grind (arith, nat_tests)

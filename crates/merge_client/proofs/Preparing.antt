@@ -17,9 +17,9 @@ use Rattle.state_core.specs.declared.transitions.Transition.TheVariants.{Init, L
 use Rattle.state_core.specs.Refusals.{follows, is_keeper, is_shaped}
 use Rattle.state_core.specs.States.{ShardState}
 use Rattle.state_core.specs.Steps.{acts_for}
-use Rattle.state_core.specs.VersionReading.{most}
+use Rattle.update_core.specs.Limits.{most}
 use Rattle.state_core.proofs.ListLemmas.{each_map}
-use Rattle.state_core.proofs.VersionFacts.{version_in_shard, version_in_state}
+use Rattle.version_codec.proofs.Facts.{version_in_shard, version_in_state}
 use Rattle.history_core.specs.declared.asked.Asked.{Asked}
 use Rattle.history_core.specs.declared.asked.Asked.TheVariants as asks
 use Rattle.history_core.specs.Costs.{failed_calls, foreign_commits, merge_base, merge_parts, Within}
@@ -78,9 +78,6 @@ how old new h = by old.reading.asked refl h
     by : (o : Option Due) → old.reading.asked ≡ o → PreparesBy old o new → How old new
     by None is m = of_pair old.pair refl is m
     by (Some q) is m = reads q is m
-
-with_storing : Compactor → Storing → Compactor
-with_storing c s = record c { storing = s; pair = None }
 
 same_shard : (from s : Storing) → storing.Prepares from s → s.trying.loader.shard ≡ from.trying.loader.shard
 same_shard from s p = ap (λ (z : Storing). z.trying.loader.shard) (prepares_same from s p)

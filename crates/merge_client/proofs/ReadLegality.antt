@@ -21,7 +21,7 @@ use Rattle.state_core.specs.declared.kinds.Kind.TheVariants.{Keeper}
 use Rattle.state_core.specs.declared.members.Member.{Member}
 use Rattle.state_core.specs.Refusals.{member_of}
 use Rattle.state_core.specs.States.{ShardState}
-use Rattle.state_core.specs.VersionReading.{most}
+use Rattle.update_core.specs.Limits.{most}
 use Rattle.history_core.specs.Discipline.{LawfulBack}
 use Rattle.history_core.specs.Laws.{LastIs}
 use Rattle.history_core.specs.Legal.{AtLast}

@@ -11,7 +11,7 @@ use Rattle.store_core.specs.Stores.{Stored}
 use Rattle.store_core.specs.Ports.{Answered, OfOthers}
 use Rattle.store_core.specs.Newest.{mine_back, replay_back}
 use Rattle.state_core.specs.declared.kinds.Kind.TheVariants.{Keeper}
-use Rattle.state_core.specs.VersionReading.{most}
+use Rattle.update_core.specs.Limits.{most}
 use Rattle.history_core.specs.Discipline.{LawfulBack}
 use Rattle.history_core.specs.Stands.{StandsFor}
 use Rattle.history_core.specs.declared.merge_answers.MergeAnswer.{MergeAnswer}

@@ -21,7 +21,7 @@ use Rattle.state_core.specs.Lists.{Among}
 use Rattle.state_core.specs.Refusals.{member_of}
 use Rattle.state_core.specs.States.{ShardState}
 use Rattle.state_core.specs.Steps.{acts_for}
-use Rattle.state_core.specs.VersionReading.{most}
+use Rattle.update_core.specs.Limits.{most}
 use Rattle.history_core.specs.declared.asked.Asked.TheVariants as asks
 use Rattle.history_core.specs.Discipline.{GotAs, Hold, IsCasUnder, IsGot, LawfulBack, OwnsSome, ShowsState}
 use Rattle.history_core.specs.Laws.{LastIs}

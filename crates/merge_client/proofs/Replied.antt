@@ -44,11 +44,6 @@ Fits r _ = ⊤
 
 -- ---- a transition
 
-refused_fits : (c : Compactor) (r : Reply) (refusal : Refusal) → Fits r (merge_refused c refusal)
-refused_fits c r refusals.NotPresent = tt
-refused_fits c r refusals.NoMember = tt
-refused_fits c r other = tt
-
 token_fits : (c : Compactor) (r : Reply) (refusal : Refusal) → Fits r (merge_poll c (token_outcome c.storing.trying
     c.token refusal))
 token_fits c r (refusals.TokenOld last) = elim (bool_cases ((last == c.token) && c.storing.trying.failed)) [

@@ -3,7 +3,7 @@ use Rattle.std.proofs.Common.{◌≡◌, ◌≤◌, ℕ, Bool, true, false, Opti
 use Rattle.std.specs.Prelude.{⊤, IsSome, IfSome}
 use Rattle.store_core.specs.declared.part_keys.PartKey.{PartKey}
 use Rattle.store_core.specs.declared.replies.Reply.{Reply}
-use Rattle.state_core.specs.VersionReading.{most}
+use Rattle.update_core.specs.Limits.{most}
 use Rattle.history_core.specs.declared.asked.Asked.{Asked}
 use Rattle.history_core.specs.declared.asked.Asked.TheVariants as asks
 use Rattle.history_core.specs.declared.merge_answers.MergeAnswer.{MergeAnswer}

@@ -5,6 +5,7 @@ use Rattle.store_core.specs.declared.shards.ShardId.{ShardId}
 use Rattle.store_core.specs.declared.replies.Reply.{Reply}
 use Rattle.store_core.specs.declared.entries.Entry.{Entry}
 use Rattle.store_core.specs.Stores.{Stored}
+use Rattle.history_core.specs.Costs.{change_base}
 use Rattle.history_core.specs.declared.asked.Asked.{Asked}
 use Rattle.history_core.specs.declared.merge_answers.MergeAnswer.{MergeAnswer}
 use Rattle.history_core.specs.Legal.{Command}
@@ -73,7 +74,7 @@ machine = record {
   Follows = FollowsAll;
   Spares = Spares;
   Legal = Legal;
-  least = 3;
+  least = change_base;
   CostAt = CostAt;
   CostOver = CostOver;
 }

@@ -9,7 +9,7 @@ use Rattle.state_core.specs.declared.kinds.Kind.TheVariants.{Keeper}
 use Rattle.state_core.specs.declared.refusals.Refusal.{Refusal}
 use Rattle.state_core.specs.declared.refusals.Refusal.TheVariants as refusals
 use Rattle.state_core.specs.declared.transitions.Transition.TheVariants.{Init, Join}
-use Rattle.state_core.specs.VersionReading.{most}
+use Rattle.update_core.specs.Limits.{max_weight, most}
 use Rattle.history_core.specs.declared.asked.Asked.{Asked}
 use Rattle.history_core.specs.declared.asked.Asked.TheVariants as asks
 use Rattle.history_core.specs.declared.merge_answers.MergeAnswer.{MergeAnswer}
@@ -94,7 +94,7 @@ pub record IsLent (c : Compactor) : Type 0 where
 pub record IsGot (c : Compactor) (p : Pair) : Type 0 where
   pub asked : c.asked ≡ Some asks.Merge
   pub idle : IsIdle c.storing
-  pub light : weight_of p.rows ≤ 2 ^ 62
+  pub light : weight_of p.rows ≤ max_weight
   pub known : IsSome c.storing.trying.loader.cached
   pub unread : c.reading.asked ≡ None
 

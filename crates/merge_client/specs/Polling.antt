@@ -9,7 +9,7 @@ use Rattle.store_core.specs.declared.entries.Entry.{Entry}
 use Rattle.store_core.specs.Stores.{Stored}
 use Rattle.state_core.specs.declared.transitions.Transition.{Transition}
 use Rattle.state_core.specs.declared.transitions.Transition.TheVariants.{Init, Merge}
-use Rattle.state_core.specs.VersionReading.{most}
+use Rattle.update_core.specs.Limits.{most}
 use Rattle.history_core.specs.declared.merge_answers.MergeAnswer.{MergeAnswer}
 use Rattle.history_core.specs.declared.merge_answers.MergeAnswer.TheVariants as answers
 use Rattle.history_core.specs.Costs.{merge_base, merge_parts}

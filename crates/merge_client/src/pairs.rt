@@ -1,5 +1,6 @@
 // A pair of batches and what they hold.
 ghost use Rattle.std.specs.Prelude.{◌≤◌, ◌^◌, IfOk};
+ghost use Rattle.update_core.specs.Limits.{max_weight};
 ghost use Rattle.update_core.specs.Updates.{weight_of};
 ghost use Rattle.merge_core.specs.Drafting.{IsDraft};
 
@@ -20,7 +21,7 @@ pub(crate) struct Pair {
 impl Pair {
     /// The draft of its merge. All memory is taken here. It fails only for want of it.
     pub(crate) fn draft(&self, alloc: Global, owner: Owner) -> Result<MergeDraft, AllocError>
-        requires { weight_of self.now.rows ≤ 2 ^ 62 }
+        requires { weight_of self.now.rows ≤ max_weight }
         ensures { IfOk result (IsDraft owner self.now.left self.now.right self.now.since self.now.rows) }
     {
         let left = self.left.copy(alloc)?;

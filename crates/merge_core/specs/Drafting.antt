@@ -3,7 +3,7 @@ use Rattle.std.specs.Prelude.{◌≡◌, ℕ, ◌+◌, ◌≤◌, true, List, �
 use Rattle.std.specs.List.{AllByRecursion}
 use Rattle.update_core.specs.declared.updates.Update.{Update}
 use Rattle.update_core.specs.Updates.{cons, moved}
-use Rattle.store_core.specs.ByteLists.{IsBytes}
+use Rattle.byte_core.specs.ByteLists.{IsBytes}
 use Rattle.spine_core.specs.declared.batches.Batch.{Batch}
 use Rattle.store_core.specs.declared.part_keys.PartKey.{PartKey}
 use Rattle.store_core.specs.Ports.{Answered}

@@ -1,7 +1,8 @@
 // The draft of a merge.
 ghost use Rattle.std.specs.Prelude.{◌≡◌, ◌≤◌, ◌^◌, IfOk};
 ghost use Rattle.std.specs.List.{AllByRecursion};
-ghost use Rattle.store_core.specs.ByteLists.{IsBytes};
+ghost use Rattle.update_core.specs.Limits.{max_weight};
+ghost use Rattle.byte_core.specs.ByteLists.{IsBytes};
 ghost use Rattle.update_core.specs.Updates.{weight_of};
 ghost use Rattle.merge_core.specs.Drafting.{IsDraft, merged_batch};
 
@@ -67,7 +68,7 @@ pub fn merge_draft(
     since: u64,
     rows: UpdateList,
 ) -> Result<MergeDraft, AllocError>
-    requires { weight_of rows ≤ 2 ^ 62 }
+    requires { weight_of rows ≤ max_weight }
     ensures { IfOk result (IsDraft owner left right since rows) }
 {
     let mut rows = rows;

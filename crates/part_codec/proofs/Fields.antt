@@ -4,12 +4,14 @@ use Rattle.std.specs.Int.{Width, w32, w64, byte_len, from_be_bytes, to_be_bytes}
 use Rattle.std.proofs.lemmas.Bool.{cases_lt, ltb-false, le-ltb, eqb-true}
 use Rattle.std.proofs.lemmas.Bool.Decides.{nat_tests}
 use Rattle.std.proofs.lemmas.List.{take_at, drop_at, take-append-drop, length-append, length-take, get_or-drop, get_or-take, get_or_past}
-use Rattle.std.proofs.lemmas.Nat.{be_bytes_4, be_bytes_8, from_be_bytes-to_be_bytes_4, from_be_bytes-to_be_bytes_8}
-use Rattle.store_core.specs.ByteLists.{IsBytes}
-use Rattle.store_core.proofs.ByteLists.{IsBytes-drop, IsBytes-take, IsBytes-rest}
+use Rattle.byte_core.specs.ByteLists.{IsBytes}
+use Rattle.byte_core.proofs.ByteLists.{IsBytes-drop, IsBytes-take, IsBytes-rest}
+use Rattle.byte_core.proofs.Wide.{IsWide, wide32, wide64}
 use Rattle.part_codec.specs.declared.part_faults.PartFault.{PartFault}
 use Rattle.part_codec.specs.declared.part_faults.PartFault.TheVariants as faults
-use Rattle.part_codec.specs.Reading.{◌>>=◌, place, byte_at, number_at, magic, magic_at, form_at, count_at, length_at, datum_at, bits_at}
+use Rattle.byte_core.specs.Reading.{place, short}
+use Rattle.byte_core.specs.declared.shorts.Short.{Short}
+use Rattle.part_codec.specs.Reading.{◌>>=◌, whole, byte_at, number_at, magic, magic_at, form_at, count_at, length_at, datum_at, bits_at}
 
 -- the value of a step that did not fail
 pub bind_ok : {A B : Type 0} (r : Result A PartFault) (f : A → Result B PartFault) (y : B) → (r >>= f) ≡ Ok y → (x : A) × (r ≡ Ok x) × (f x ≡ Ok y)
@@ -24,6 +26,11 @@ guard_ok false d x y e = (refl, cc)
 pub guard_passed : {A : Type 0} (b : Bool) (d : PartFault) (x y : A) → cond b (Ok x) (Err d) ≡ Ok y → (b ≡ true) × (x ≡ y)
 guard_passed true d x y e = (refl, cc)
 guard_passed false d x y e = absurd cc
+
+-- a number that was read whole
+pub wide_ok : {A : Type 0} (b : Bool) (d : Short) (x y : A) → whole (cond b (Err d) (Ok x)) ≡ Ok y → (b ≡ false) × (x ≡ y)
+wide_ok true d x y e = absurd cc
+wide_ok false d x y e = (refl, cc)
 
 abbrev done : {A : Type 0} → A → Result A PartFault
 done x = Ok x
@@ -47,32 +54,10 @@ Takes-then a x b y c p q = record { parts = p.parts ∙ ap (λ (t : List ℕ). x
 
 -- ---- numbers
 
-pub record IsWide (w : Width) (limit : ℕ) : Type 0 where
-  pub len : (n : ℕ) → length (to_be_bytes w n) ≡ byte_len w
-  pub back : (bytes : List ℕ) → length bytes ≡ byte_len w → IsBytes bytes → to_be_bytes w (from_be_bytes w bytes) ≡ bytes
-  pub again : (n : ℕ) → n < limit → from_be_bytes w (to_be_bytes w n) ≡ n
-  pub below : (bytes : List ℕ) → IsBytes bytes → from_be_bytes w bytes < limit
-
-pub wide32 : IsWide w32 (2 ^ 32)
-wide32 = record {
-  len = λ n. refl;
-  back = λ bytes len fits. be_bytes_4 bytes _ len fits refl;
-  again = λ n lt. from_be_bytes-to_be_bytes_4 n lt;
-  below = λ bytes fits. omega (arith, fits 0, fits 1, fits 2, fits 3);
-}
-
-pub wide64 : IsWide w64 (2 ^ 64)
-wide64 = record {
-  len = λ n. refl;
-  back = λ bytes len fits. be_bytes_8 bytes _ len fits refl;
-  again = λ n lt. from_be_bytes-to_be_bytes_8 n lt;
-  below = λ bytes fits. omega (arith, fits 0, fits 1, fits 2, fits 3, fits 4, fits 5, fits 6, fits 7);
-}
-
 module _ (total : ℕ) where
   pub number_takes : (w : Width) (limit : ℕ) (wide : IsWide w limit) (bytes : List ℕ) (n : ℕ) (rest : List ℕ) → IsBytes bytes → number_at w total bytes ≡ Ok (n, rest) → Takes bytes (to_be_bytes w n) rest × (n < limit)
   number_takes w limit wide bytes n rest fits e =
-      let g = guard_ok (ltb (length bytes) (byte_len w)) (faults.Short (place total bytes)) (from_be_bytes w (take (byte_len w) bytes), drop (byte_len w) bytes) (n, rest) e in
+      let g = wide_ok (ltb (length bytes) (byte_len w)) (short total bytes) (from_be_bytes w (take (byte_len w) bytes), drop (byte_len w) bytes) (n, rest) e in
       let long : byte_len w ≤ length bytes = ltb-false _ _ g.0 in
       let n-is : from_be_bytes w (take (byte_len w) bytes) ≡ n = ap (λ (p : ℕ × List ℕ). p.0) g.1 in
       let rest-is : drop (byte_len w) bytes ≡ rest = ap (λ (p : ℕ × List ℕ). p.1) g.1 in
@@ -134,7 +119,7 @@ module _ (total : ℕ) where
 
   -- ---- a datum
 
-  length_takes : (bytes : List ℕ) (x : ℕ × List ℕ) → IsBytes bytes → length_at total bytes ≡ Ok x → Takes bytes (x.0 ∷ []) x.1 × (x.0 < 256) × (x.0 ≢ 0)
+  pub length_takes : (bytes : List ℕ) (x : ℕ × List ℕ) → IsBytes bytes → length_at total bytes ≡ Ok x → Takes bytes (x.0 ∷ []) x.1 × (x.0 < 256) × (x.0 ≢ 0)
   unfolding length_at
   length_takes bytes x fits e =
       let a = bind_ok (byte_at total bytes) (λ n. cond (eqb n.0 0) (Err (faults.Size (place total bytes))) (Ok n)) x e in

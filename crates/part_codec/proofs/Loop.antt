@@ -16,7 +16,7 @@ last_is (y ∷ z ∷ xs) x h e =
     let j : suc (length xs) - 1 ≡ length xs = omega arith in
     last_is (z ∷ xs) x (omega arith) (e ∙ ap (λ i. get_or (y ∷ z ∷ xs) i x) k ∙ ap (λ i. get_or (z ∷ xs) i x) (sym j))
 
-last_of-push : {A : Type 0} (xs : List A) (x : A) → last_of (xs ++ x ∷ []) ≡ Some x
+pub last_of-push : {A : Type 0} (xs : List A) (x : A) → last_of (xs ++ x ∷ []) ≡ Some x
 last_of-push [] x = refl
 last_of-push (y ∷ []) x = refl
 last_of-push (y ∷ z ∷ xs) x = last_of-push (z ∷ xs) x

@@ -12,10 +12,12 @@ use Rattle.update_core.specs.declared.updates.Update.{Update}
 use Rattle.part_codec.specs.declared.part_faults.PartFault.{PartFault}
 use Rattle.part_codec.specs.declared.part_faults.PartFault.TheVariants as faults
 use Rattle.part_codec.specs.Parts.{row_bytes, spelling, NonZero, Fits, IsPart, Part}
-use Rattle.part_codec.specs.Reading.{◌>>=◌, Gives, place, number_at, magic_at, form_at, count_at, datum_at, bits_at, fields_at, follows, row_at, rows_at, all_of}
+use Rattle.byte_core.specs.Reading.{place}
+use Rattle.part_codec.specs.Reading.{◌>>=◌, Gives, number_at, magic_at, form_at, count_at, datum_at, bits_at, fields_at, follows, row_at, rows_at, all_of}
 use Rattle.part_codec.proofs.Rising.{RisesAfter, all_rise, each_rises}
-use Rattle.store_core.specs.ByteLists.{IsBytes}
-use Rattle.part_codec.proofs.Fields.{bind_ok, guard_passed, ok_is, Takes, Takes-then, wide64, number_takes, number_again, magic_takes, magic_again, form_takes, form_again, count_takes, count_again, datum_takes, datum_again, bits_takes, bits_again}
+use Rattle.byte_core.specs.ByteLists.{IsBytes}
+use Rattle.byte_core.proofs.Wide.{wide64}
+use Rattle.part_codec.proofs.Fields.{bind_ok, guard_passed, ok_is, Takes, Takes-then, number_takes, number_again, magic_takes, magic_again, form_takes, form_again, count_takes, count_again, datum_takes, datum_again, bits_takes, bits_again}
 
 -- ---- differences
 
@@ -34,12 +36,12 @@ bits_some d fits some e = some (sym (to_z-of_z w64 d fits) ∙ ap (cast_signed w
 module _ (total : ℕ) where
   -- ---- a row
 
-  record Read (before : Option Update) (u : Update) : Type 0 where
+  pub record Read (before : Option Update) (u : Update) : Type 0 where
     pub fits : Fits u
     pub nonzero : u.diff ≢ pos 0
     pub follows : follows before u ≡ true
 
-  fields_take : (bytes : List ℕ) (x : Update × List ℕ) → IsBytes bytes → fields_at total bytes ≡ Ok x → Takes bytes (row_bytes x.0) x.1 × Fits x.0 × (x.0.diff ≢ pos 0)
+  pub fields_take : (bytes : List ℕ) (x : Update × List ℕ) → IsBytes bytes → fields_at total bytes ≡ Ok x → Takes bytes (row_bytes x.0) x.1 × Fits x.0 × (x.0.diff ≢ pos 0)
   unfolding fields_at
   fields_take bytes x fits e =
       let a = bind_ok (datum_at total bytes) (λ datum. number_at w64 total datum.1 >>= λ time. bits_at total time.1 >>= λ bits. Ok (record { datum = datum.0; time = time.0; diff = cast_signed w64 bits.0 }, bits.1)) x e in
@@ -56,7 +58,7 @@ module _ (total : ℕ) where
       let fit : Fits made.0 = record { some = t0.1.some; few = t0.1.few; time = t1.1; diff = signed_fits c.0.0 t2.1 } in
       subst (λ (y : Update × List ℕ). Takes bytes (row_bytes y.0) y.1 × Fits y.0 × (y.0.diff ≢ pos 0)) (ok_is made x c.2) (whole, fit, signed_some c.0.0 t2.1 t2.2)
 
-  fields_again : (u : Update) (rest : List ℕ) → Fits u → u.diff ≢ pos 0 → fields_at total (row_bytes u ++ rest) ≡ Ok (u, rest)
+  pub fields_again : (u : Update) (rest : List ℕ) → Fits u → u.diff ≢ pos 0 → fields_at total (row_bytes u ++ rest) ≡ Ok (u, rest)
   unfolding fields_at
   fields_again u rest fits some =
       let t = to_be_bytes w64 u.time in
@@ -66,7 +68,7 @@ module _ (total : ℕ) where
       ap (fields_at total) regrouped
       ∙ rw (datum_again total u.datum (t ++ (d ++ rest)) fits.some, number_again total w64 (2 ^ 64) wide64 u.time (d ++ rest) fits.time, bits_again total (cast_unsigned w64 u.diff) rest (bits_fit u.diff fits.diff) (bits_some u.diff fits.diff some), back) refl
 
-  row_takes : (before : Option Update) (bytes : List ℕ) (x : Update × List ℕ) → IsBytes bytes → row_at total before bytes ≡ Ok x → Takes bytes (row_bytes x.0) x.1 × Read before x.0
+  pub row_takes : (before : Option Update) (bytes : List ℕ) (x : Update × List ℕ) → IsBytes bytes → row_at total before bytes ≡ Ok x → Takes bytes (row_bytes x.0) x.1 × Read before x.0
   unfolding row_at
   row_takes before bytes x fits e =
       let a = bind_ok (fields_at total bytes) (λ row. cond (follows before row.0) (Ok row) (Err (faults.Order (place total bytes)))) x e in
@@ -74,19 +76,19 @@ module _ (total : ℕ) where
       let t = fields_take bytes a.0 fits a.1 in
       subst (λ (y : Update × List ℕ). Takes bytes (row_bytes y.0) y.1 × Read before y.0) g.1 (t.0, record { fits = t.1; nonzero = t.2; follows = g.0 })
 
-  row_again : (before : Option Update) (u : Update) (rest : List ℕ) → Fits u → u.diff ≢ pos 0 → follows before u ≡ true → row_at total before (row_bytes u ++ rest) ≡ Ok (u, rest)
+  pub row_again : (before : Option Update) (u : Update) (rest : List ℕ) → Fits u → u.diff ≢ pos 0 → follows before u ≡ true → row_at total before (row_bytes u ++ rest) ≡ Ok (u, rest)
   unfolding row_at
   row_again before u rest fits some above = rw (fields_again u rest fits some, above) refl
 
   -- ---- rows
 
-  record ReadAll (n : ℕ) (before : Option Update) (us : List Update) : Type 0 where
+  pub record ReadAll (n : ℕ) (before : Option Update) (us : List Update) : Type 0 where
     pub count : length us ≡ n
     pub fits : AllByRecursion Fits us
     pub nonzero : NonZero us
     pub rises : RisesAfter before us
 
-  rows_take : (n : ℕ) (before : Option Update) (bytes : List ℕ) (x : List Update × List ℕ) → IsBytes bytes → rows_at total n before bytes ≡ Ok x → Takes bytes (flat_map row_bytes x.0) x.1 × ReadAll n before x.0
+  pub rows_take : (n : ℕ) (before : Option Update) (bytes : List ℕ) (x : List Update × List ℕ) → IsBytes bytes → rows_at total n before bytes ≡ Ok x → Takes bytes (flat_map row_bytes x.0) x.1 × ReadAll n before x.0
   unfolding rows_at
   rows_take zero before bytes x fits e =
       subst (λ (y : List Update × List ℕ). Takes bytes (flat_map row_bytes y.0) y.1 × ReadAll 0 before y.0) (ok_is ([], bytes) x e) (record { parts = refl; rest_fits = fits }, record { count = refl; fits = tt; nonzero = tt; rises = tt })
@@ -100,7 +102,7 @@ module _ (total : ℕ) where
       let all : ReadAll (suc n) before made.0 = record { count = ap suc second.1.count; fits = (first.1.fits, second.1.fits); nonzero = (first.1.nonzero, second.1.nonzero); rises = (first.1.follows, second.1.rises) } in
       subst (λ (y : List Update × List ℕ). Takes bytes (flat_map row_bytes y.0) y.1 × ReadAll (suc n) before y.0) (ok_is made x b.2) (rw flat_map-cons both, all)
 
-  rows_again : (before : Option Update) (us : List Update) (rest : List ℕ) → AllByRecursion Fits us → NonZero us → RisesAfter before us → rows_at total (length us) before (flat_map row_bytes us ++ rest) ≡ Ok (us, rest)
+  pub rows_again : (before : Option Update) (us : List Update) (rest : List ℕ) → AllByRecursion Fits us → NonZero us → RisesAfter before us → rows_at total (length us) before (flat_map row_bytes us ++ rest) ≡ Ok (us, rest)
   unfolding rows_at
   rows_again before [] rest fits some rises = refl
   rows_again before (u ∷ us) rest fits some rises =
@@ -110,7 +112,7 @@ module _ (total : ℕ) where
 
 -- ---- all
 
-all_take : (bytes : List ℕ) (us : List Update) → IsBytes bytes → all_of bytes ≡ Ok us → Part us bytes
+pub all_take : (bytes : List ℕ) (us : List Update) → IsBytes bytes → all_of bytes ≡ Ok us → Part us bytes
 unfolding all_of
 all_take bytes us fits e =
     let n = length bytes in

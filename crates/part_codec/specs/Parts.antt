@@ -4,6 +4,7 @@ use Rattle.std.specs.List.{flat_map, AllByRecursion}
 use Rattle.std.specs.List.Sorted.{IsStrictlySortedBy}
 use Rattle.std.specs.Map.{keys_of}
 use Rattle.std.specs.Int.{w32, w64, to_be_bytes, cast_unsigned}
+use Rattle.update_core.specs.Limits.{max_part_rows}
 use Rattle.update_core.specs.declared.updates.Update.{Update}
 use Rattle.update_core.specs.Updates.{moment_cmp, moment_entry}
 
@@ -36,7 +37,7 @@ pub record Fits (u : Update) : Type 0 where
 
 -- the rows of a part
 pub record IsPart (rows : List Update) : Type 0 where
-  pub few : length rows ≤ 4096
+  pub few : length rows ≤ max_part_rows
   pub rising : Rising rows
   pub nonzero : NonZero rows
   pub fits : AllByRecursion Fits rows

@@ -2,8 +2,12 @@
 use Rattle.std.specs.Prelude.{◌≡◌, ℕ, zero, suc, ◌-◌, Bool, true, List, [], ◌∷◌, length, take, drop, Option, Some, None, Result, Ok, Err, nat_lt, ◌==◌, if◌then◌else◌, ⊤}
 use Rattle.std.specs.Int.{Width, w32, w64, byte_len, from_be_bytes, cast_signed}
 use Rattle.std.specs.Ordering.{is_lt}
+use Rattle.update_core.specs.Limits.{max_part_rows}
 use Rattle.update_core.specs.declared.updates.Update.{Update}
 use Rattle.update_core.specs.Updates.{moment_cmp}
+use Rattle.byte_core.specs.declared.shorts.Short.{Short}
+use Rattle.byte_core.specs.Reading.{place}
+use Rattle.byte_core.specs.Reading as numbers
 use Rattle.part_codec.specs.declared.part_faults.PartFault.{PartFault}
 use Rattle.part_codec.specs.declared.part_faults.PartFault.TheVariants as faults
 
@@ -23,19 +27,18 @@ abbrev pub Gives : {X Y : Type 0} → (X → Y) → Result X PartFault → Resul
 Gives view (Ok x) read = read ≡ Ok (view x)
 Gives view (Err e) read = Fails e read
 
--- the place of the next byte, where these of `total` bytes are left
-abbrev pub place : ℕ → List ℕ → ℕ
-place total rest = total - length rest
+-- what is read, unless the bytes end too soon
+abbrev pub whole : {A : Type 0} → Result A Short → Result A PartFault
+whole (Ok x) = Ok x
+whole (Err e) = Err (faults.Short e.place)
 
 -- a byte, and what is left after it
 abbrev pub byte_at : ℕ → List ℕ → Result (ℕ × List ℕ) PartFault
-byte_at total [] = Err (faults.Short (place total []))
-byte_at total (b ∷ rest) = Ok (b, rest)
+byte_at total bytes = whole (numbers.byte_at total bytes)
 
 -- a number in this many bytes, and what is left after it
 abbrev pub number_at : Width → ℕ → List ℕ → Result (ℕ × List ℕ) PartFault
-number_at w total bytes =
-    if nat_lt (length bytes) (byte_len w) then Err (faults.Short (place total bytes)) else Ok (from_be_bytes w (take (byte_len w) bytes), drop (byte_len w) bytes)
+number_at w total bytes = whole (numbers.wide_at w total bytes)
 
 -- the letters PART as a number
 abbrev pub magic : ℕ
@@ -57,7 +60,7 @@ form_at total bytes = do
 unfoldable pub count_at : ℕ → List ℕ → Result (ℕ × List ℕ) PartFault
 count_at total bytes = do
   n ← number_at w32 total bytes
-  if nat_lt 4096 n.0 then Err (faults.Size (place total bytes)) else Ok n
+  if nat_lt max_part_rows n.0 then Err (faults.Size (place total bytes)) else Ok n
 
 -- the length of a datum
 unfoldable pub length_at : ℕ → List ℕ → Result (ℕ × List ℕ) PartFault

@@ -1,12 +1,16 @@
 // Reading of parts.
-ghost use Rattle.std.specs.Prelude.{◌≡◌, List, [], length, IfOk, Ok, None};
+ghost use Rattle.std.specs.Prelude.{◌≡◌, ◌⊎◌, List, [], length, IfErr, IfOk, Ok, None};
 ghost use Rattle.std.specs.Int.{w32, w64};
 ghost use Rattle.store_core.specs.Stores.{last_of};
 ghost use Rattle.update_core.specs.declared.updates.Update.{Update as Row};
 ghost use Rattle.part_codec.specs.Parts.{Part};
-ghost use Rattle.part_codec.specs.Reading.{Gives, place, byte_at, number_at, magic, magic_at, form_at, count_at, length_at, datum_at, bits_at, fields_at, follows, row_at, rows_at, all_of};
+ghost use Rattle.part_codec.specs.Refusals.{IsRefused};
+ghost use Rattle.part_codec.specs.declared.part_faults.PartFault.TheVariants.{Memory};
+ghost use Rattle.byte_core.specs.Reading.{place};
+ghost use Rattle.part_codec.specs.Reading.{Gives, byte_at, number_at, magic, magic_at, form_at, count_at, length_at, datum_at, bits_at, fields_at, follows, row_at, rows_at, all_of};
 
 use crate::part_faults::PartFault;
+use byte_core::{next_byte, next_u32, next_u64, place_of};
 use std::alloc::{AllocError, Global};
 use update_core::{Datum, Update, UpdateList};
 
@@ -17,51 +21,6 @@ const MAX_ROWS: u32 = 4096;
 
 // A row's length, a datum of one byte, a time and a difference.
 const LEAST_ROW: usize = 18;
-
-fn place_of(total: usize, rest: &[u8]) -> u64
-    ensures { result ≡ place total rest.now }
-{
-    total.saturating_sub(rest.len()) as u64
-}
-
-fn next_byte(total: usize, bytes: &[u8]) -> Result<(u8, &[u8]), PartFault>
-    ensures { Gives (λ x. (x.0, x.1.now)) result (byte_at total bytes.now) }
-{
-    match bytes {
-        [] => Err(PartFault::Short {
-            place: place_of(total, bytes),
-        }),
-        [byte, rest @ ..] => Ok((*byte, rest)),
-    }
-}
-
-fn next_u32(total: usize, bytes: &[u8]) -> Result<(u32, &[u8]), PartFault>
-    ensures { Gives (λ x. (x.0, x.1.now)) result (number_at w32 total bytes.now) }
-{
-    if bytes.len() < 4 {
-        return Err(PartFault::Short {
-            place: place_of(total, bytes),
-        });
-    }
-    let (front, rest) = bytes.split_at(4);
-    let number = u32::from_be_bytes([front[0], front[1], front[2], front[3]]);
-    Ok((number, rest))
-}
-
-fn next_u64(total: usize, bytes: &[u8]) -> Result<(u64, &[u8]), PartFault>
-    ensures { Gives (λ x. (x.0, x.1.now)) result (number_at w64 total bytes.now) }
-{
-    if bytes.len() < 8 {
-        return Err(PartFault::Short {
-            place: place_of(total, bytes),
-        });
-    }
-    let (front, rest) = bytes.split_at(8);
-    let number = u64::from_be_bytes([
-        front[0], front[1], front[2], front[3], front[4], front[5], front[6], front[7],
-    ]);
-    Ok((number, rest))
-}
 
 #[tactic(auto, unfolding(crate::specs::Reading::magic_at))]
 fn after_magic(total: usize, bytes: &[u8]) -> Result<&[u8], PartFault>
@@ -244,6 +203,8 @@ pub fn decode_part(alloc: Global, bytes: &[u8]) -> Result<UpdateList, PartFault>
     ensures found { IfOk result (λ rows. Part rows bytes.now) }
     // A part is read, unless memory runs out.
     ensures only { (rows : List Row) → Part rows bytes.now → Gives (λ found. found) result (Ok rows) }
+    // Else it is the one fault that these bytes have, unless memory runs out.
+    ensures refused { IfErr result (λ fault. (fault ≡ Memory) ⊎ IsRefused fault bytes.now) }
     // Which fault it is, and where.
     ensures exact { Gives (λ found. found) result (all_of bytes.now) }
 {

@@ -2,6 +2,7 @@
 ghost use Rattle.std.specs.Prelude.{◌≡◌, ◌≤◌, ◌++◌, length, OnOk, IfOk};
 ghost use Rattle.std.specs.Int.{w64, cast_unsigned, to_be_bytes};
 ghost use Rattle.std.specs.List.{AllByRecursion};
+ghost use Rattle.update_core.specs.Limits.{max_part_rows};
 ghost use Rattle.part_codec.specs.Parts.{row_bytes, spelling, Fits, NonZero, Part, Rising};
 
 use std::alloc::{AllocError, Global};
@@ -28,7 +29,7 @@ fn put_row(out: &mut Vec<u8>, row: &Update) -> Result<(), AllocError>
 }
 
 fn spelled(alloc: Global, rows: &[Update]) -> Result<Vec<u8>, AllocError>
-    requires { length rows.now ≤ 4096 }
+    requires { length rows.now ≤ max_part_rows }
     ensures spelled { IfOk result (λ bytes. bytes.items ≡ spelling rows.now) }
     ensures fit { OnOk result (AllByRecursion Fits rows.now) }
 {
@@ -43,7 +44,7 @@ fn spelled(alloc: Global, rows: &[Update]) -> Result<Vec<u8>, AllocError>
 
 /// The bytes of the part with these rows. It fails only for want of memory.
 pub fn encode_part(alloc: Global, rows: &[Update]) -> Result<Bytes, AllocError>
-    requires few { length rows.now ≤ 4096 }
+    requires few { length rows.now ≤ max_part_rows }
     requires rising { Rising rows.now }
     requires nonzero { NonZero rows.now }
     ensures { IfOk result (λ bytes. Part rows.now bytes) }

@@ -2,6 +2,7 @@
 ghost use Rattle.std.specs.Prelude.{◌≡◌};
 ghost use Rattle.part_codec.specs.declared.part_faults.PartFault.TheVariants.{Memory};
 
+use byte_core::Short;
 use std::alloc::AllocError;
 use thiserror::Error;
 
@@ -39,5 +40,15 @@ impl From<AllocError> for PartFault {
 
     fn from(_: AllocError) -> Self {
         PartFault::Memory
+    }
+}
+
+impl From<Short> for PartFault {
+    ghost use Rattle.part_codec.specs.declared.part_faults.PartFault.TheVariants as faults;
+
+    ghost from_gives = { λ short e. e ≡ faults.Short short.place };
+
+    fn from(short: Short) -> Self {
+        PartFault::Short { place: short.place }
     }
 }

@@ -17,10 +17,11 @@ use Rattle.crash_laws.specs.Accepted.{KeepsAccepted}
 use Rattle.crash_laws.proofs.Keeping.{keeps_accepted}
 use Rattle.persist_app.specs.DiskLefts.{KeepsAcceptedFrom, StandsWhereTold}
 use Rattle.persist_app.specs.PlainEnds.{EndsPlainly}
+use Rattle.persist_app.specs.TopEnds.{EndsTop}
 use Rattle.persist_app.proofs.DiskOpenings.{rose_before}
 
 -- the count that is looked at may be an earlier one
-pub ends_since : (words : List (List ℕ)) (status : ℕ) (told told_now : Option History) (early failed failed_now : ℕ)
+ends_since : (words : List (List ℕ)) (status : ℕ) (told told_now : Option History) (early failed failed_now : ℕ)
     (left left_now : Option (List ℕ)) (reads reads_now faults faults_now : ℕ) (taken taken_now : Option (List ℕ)) (puts puts_now : ℕ)
     → early ≤ failed
     → EndsPlainly words status told told_now failed failed_now left left_now reads reads_now faults faults_now taken taken_now puts puts_now
@@ -42,6 +43,25 @@ ends_since words status told told_now early failed failed_now left left_now read
       store = e.store;
       lawful = e.lawful;
       idle = e.idle;
+      untouched = e.untouched;
+    }
+
+pub top_since : (words : List (List ℕ)) (status : ℕ) (told told_now : Option History) (early failed failed_now : ℕ)
+    (left left_now : Option (List ℕ)) (reads reads_now faults faults_now : ℕ) (taken taken_now : Option (List ℕ)) (puts puts_now : ℕ)
+    → early ≤ failed
+    → EndsTop words status told told_now failed failed_now left left_now reads reads_now faults faults_now taken taken_now puts puts_now
+    → EndsTop words status told told_now early failed_now left left_now reads reads_now faults faults_now taken taken_now puts puts_now
+top_since words status told told_now early failed failed_now left left_now reads reads_now faults faults_now taken taken_now
+    puts puts_now le e =
+    record {
+      ingests = e.ingests;
+      lawful = e.lawful;
+      plain = λ none. ends_since words status told told_now early failed failed_now left left_now reads reads_now faults faults_now taken
+          taken_now puts puts_now le (e.plain none);
+      statuses = e.statuses;
+      store_failed = e.store_failed;
+      reading = e.reading;
+      store = e.store;
       untouched = e.untouched;
     }
 

@@ -1,3 +1,5 @@
 pub mod Performed
+pub mod TopWords
+pub mod TopEndings
 pub mod DiskOpenings
 pub mod DiskEndings

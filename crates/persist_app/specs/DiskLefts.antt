@@ -18,7 +18,7 @@ use Rattle.store_file.specs.Causes.{IsCauseOf}
 use Rattle.crash_laws.specs.Accepted.{KeepsAccepted}
 use Rattle.persist_app.specs.declared.disk_lefts.DiskLeft.{DiskLeft}
 use Rattle.persist_app.specs.declared.disk_lefts.DiskLeft.TheVariants as lefts
-use Rattle.persist_app.specs.Endings.{IsStatus}
+use Rattle.persist_app.specs.TopEnds.{IsTopStatus}
 use Rattle.persist_app.specs.DiskLines.{Refuses}
 
 -- no bytes begin an empty store, and others the store that they stand for
@@ -55,7 +55,7 @@ module _ {D : Type 0} {G : Ghosts D} where
   abbrev pub IsLeft : D → DiskLeft D G → ℕ → Option (List ℕ) → Option (List ℕ) → ℕ → ℕ → Type 0
   IsLeft disk (lefts.Disk left) status taken taken_now puts puts_now =
       (why : OpenFault) × IsCauseOf (G.history disk) (G.faults disk) (G.faults left) why × Refuses why status taken taken_now puts puts_now
-  IsLeft disk (lefts.Store store) status taken taken_now puts puts_now = IsStatus status
+  IsLeft disk (lefts.Store store) status taken taken_now puts puts_now = IsTopStatus status
 
   -- where no store was opened, the source is as it was
   abbrev pub IsUnread : {S : Type 0} → DiskLeft D G → S → S → Type 0

@@ -3,7 +3,8 @@ use Rattle.std.specs.Prelude.{◌≡◌, ◌⊎◌, ℕ, List, [], ◌∷◌, �
 use Rattle.std.specs.Fmt.{decimal}
 use Rattle.store_file.specs.declared.open_faults.OpenFault.{OpenFault}
 use Rattle.store_file.specs.declared.open_faults.OpenFault.TheVariants as faults
-use Rattle.persist_app.specs.Endings.{IsStatus, EndsWith, memory_text}
+use Rattle.persist_app.specs.Endings.{EndsWith, memory_text}
+use Rattle.persist_app.specs.TopEnds.{IsTopStatus}
 
 abbrev pub not_a_store_text : List ℕ
 not_a_store_text = codes "not a store\n"
@@ -16,7 +17,7 @@ damaged_at_text at = codes "damaged at " ++ (decimal at ++ 10 ∷ [])
 
 -- those of a command over a store, and those of a disk that isn't opened
 abbrev pub IsDiskStatus : ℕ → Type 0
-IsDiskStatus status = IsStatus status ⊎ ((status ≡ 13) ⊎ ((status ≡ 14) ⊎ (status ≡ 15)))
+IsDiskStatus status = IsTopStatus status ⊎ ((status ≡ 13) ⊎ ((status ≡ 14) ⊎ (status ≡ 15)))
 
 -- the last line of a disk that isn't opened, and its status; want of memory may stand for a line that names a place
 abbrev pub Refuses : OpenFault → ℕ → Option (List ℕ) → Option (List ℕ) → ℕ → ℕ → Type 0

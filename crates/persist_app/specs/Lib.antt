@@ -1,4 +1,5 @@
 pub mod Endings
 pub mod PlainEnds
+pub mod TopEnds
 pub mod DiskLines
 pub mod DiskLefts

@@ -6,7 +6,7 @@ ghost use Rattle.store_file.specs.SinceOpening.{StandsForFirst};
 ghost use Rattle.journal_core.specs.Crashes.{LeavesWhereTold};
 ghost use Rattle.store_file.specs.Causes.{IsCauseOf};
 ghost use Rattle.persist_app.specs.Endings.{EndsWith};
-ghost use Rattle.persist_app.specs.PlainEnds.{EndsPlainly};
+ghost use Rattle.persist_app.specs.TopEnds.{EndsTop};
 ghost use Rattle.persist_app.specs.DiskLines.{IsDiskStatus, Refuses, damaged_at_text};
 ghost use Rattle.persist_app.specs.DiskLefts.{BeginsWhereTold, IsLeft, KeepsAcceptedFrom, IsUnread, OnStore, StandsWhereTold, opened};
 
@@ -17,10 +17,13 @@ use crate::disk_statuses::DiskStatus;
 use crate::ends::Ended;
 use crate::statuses::Status;
 use crate::watching::over_file;
+use crew::Gate;
 use feed_text::{Sink, Source, put_all};
 use itoa::Buffer;
 use journal_core::Disk;
 use std::alloc::{AllocError, Global};
+use std::sync::Wait;
+use std::thread::Threads;
 use store_file::{FileStore, OpenFail, OpenFault};
 
 // Writes the last line. A put that fails makes the status that of the output.
@@ -78,16 +81,25 @@ fn store_on<D: Disk>(alloc: Global, disk: D) -> Result<FileStore<D>, OpenFail<D>
     }
 }
 
-/// Does what the words say, as `persist_plain` does, over the store on a disk: an empty disk gets an empty store, and any other is
+/// Does what the words say, as `persist_top` does, over the store on a disk: an empty disk gets an empty store, and any other is
 /// opened. Where that is refused nothing is read, the last line says why, and the disk is given back. See docs/DEFINITIONS.md,
 /// "A command over a disk".
-pub fn persist_on_disk<So: Source, Si: Sink, D: Disk, K: Clock>(
+pub fn persist_on_disk<
+    So: Source,
+    Si: Sink,
+    D: Disk + Send,
+    K: Clock,
+    G: Gate + Sync,
+    R: Threads + Wait + Sync,
+>(
+    rt: &R,
     alloc: Global,
     words: &Vec<String>,
     src: &mut So,
     out: &mut Si,
     disk: D,
     clock: &mut K,
+    gate: &G,
 ) -> DiskEnded<D>
     ensures statuses { IsDiskStatus result.status }
     // A disk is left where no store was created or opened, and the last line and the status tell the cause: 13, 14 and 15, or 8 for
@@ -97,8 +109,8 @@ pub fn persist_on_disk<So: Source, Si: Sink, D: Disk, K: Clock>(
     ensures unread { IsUnread result.left src.old src.new }
     // A store began with what the disk's bytes stood for, and an empty disk's with nothing.
     ensures start { OnStore result.left (λ store. BeginsWhereTold (D.history disk) (history_of store).start) }
-    // All that `persist_plain` says holds from that start on, with no call before it.
-    ensures ends { OnStore result.left (λ store. EndsPlainly (map string_bytes words.now.items) result.status (opened store) (told store)
+    // All that `persist_top` says holds from that start on, with no call before it.
+    ensures ends { OnStore result.left (λ store. EndsTop (map string_bytes words.now.items) result.status (opened store) (told store)
         (D.faults disk) (file_faults store) (So.left src.old) (So.left src.new) (So.reads src.old) (So.reads src.new)
         (So.faults src.old) (So.faults src.new) (Si.taken out.old) (Si.taken out.new) (Si.faults out.old) (Si.faults out.new)) }
     // It is shut only where the disk failed in this call.
@@ -116,7 +128,7 @@ pub fn persist_on_disk<So: Source, Si: Sink, D: Disk, K: Clock>(
 {
     match store_on(alloc, disk) {
         Ok(store) => {
-            let Ended { status, store } = over_file(alloc, words, src, out, store, clock);
+            let Ended { status, store } = over_file(rt, alloc, words, src, out, store, clock, gate);
             DiskEnded {
                 status,
                 left: DiskLeft::Store(store),

@@ -8,16 +8,16 @@ ghost use Rattle.store_core.specs.declared.shards.ShardId.{ShardId};
 ghost use Rattle.plain_run.specs.Answering.{AreApart};
 ghost use Rattle.plain_run.specs.Endings.{FoundFull, FoundSpent, NoCollection, ReadsFeed, RunsPlainly, StaysLawful};
 ghost use Rattle.step_run.specs.Endings.{ReadsSchedule, RunsSteps};
-ghost use Rattle.persist_app.specs.Endings.{EndsWith, Finishes, HasCommand, IsServed, IsStatus, NoCommand, Performs, RefusesLine};
+ghost use Rattle.persist_app.specs.Endings.{HasCommand, IsServed, IsStatus, NoCommand, Performs, RefusesLine};
 ghost use Rattle.persist_app.specs.Endings.{RefusesStep, RunsOn, Serves, Spares, ending_of, input_failed_text, words_text};
 
 use crate::clocks::Clock;
 use crate::ends::Ended;
+use crate::last_lines::finish;
 use crate::served::Served;
-use crate::statuses::Status;
 use crate::words::command_of;
 use driving::SolePort;
-use feed_text::{Sink, Source, print_line_fault, put_all};
+use feed_text::{Sink, Source};
 use plain_run::{Ending, Place, run};
 use std::alloc::Global;
 use step_run::steps;
@@ -39,55 +39,6 @@ fn place_of(shard: ShardId) -> Place
         writer: WRITER,
         reader: READER,
         others: OTHERS,
-    }
-}
-
-// Writes the last line. A put that fails makes the status that of the output.
-fn end_with<Si: Sink>(out: &mut Si, line: &[u8], status: u8) -> u8
-    ensures ends { EndsWith result status line.now (Si.taken out.old) (Si.taken out.new) (Si.faults out.old) (Si.faults out.new) }
-    ensures later { Si.faults out.old ≤ Si.faults out.new }
-{
-    match put_all(out, line) {
-        Ok(()) => status,
-        Err(_) => Status::Output as u8,
-    }
-}
-
-// Names the line at fault, where memory for that is there.
-fn end_with_line<Si: Sink>(alloc: Global, out: &mut Si, number: u64) -> u8
-    ensures { Finishes (Some (Ending.BadLine number)) result (Si.taken out.old) (Si.taken out.new) (Si.faults out.old) (Si.faults out.new) }
-{
-    let mut line = Vec::new(alloc);
-    match print_line_fault(&mut line, number) {
-        Ok(()) => end_with(out, &line, Status::Line as u8),
-        Err(_) => end_with(out, b"memory\n", Status::Memory as u8),
-    }
-}
-
-// Writes the last line of a run that has ended so, and gives its status.
-fn finish_run<Si: Sink>(alloc: Global, ending: Ending, out: &mut Si) -> u8
-    ensures { Finishes (Some ending) result (Si.taken out.old) (Si.taken out.new) (Si.faults out.old) (Si.faults out.new) }
-{
-    match ending {
-        Ending::Complete => Status::Complete as u8,
-        Ending::BadLine { number } => end_with_line(alloc, out, number),
-        Ending::InputFailed => end_with(out, b"input failed\n", Status::Input as u8),
-        Ending::OutputFailed => Status::Output as u8,
-        Ending::StoreFailed => end_with(out, b"store failed\n", Status::Store as u8),
-        Ending::Memory => end_with(out, b"memory\n", Status::Memory as u8),
-        Ending::Damaged => end_with(out, b"damaged\n", Status::Damaged as u8),
-        Ending::MembersFull => end_with(out, b"members full\n", Status::MembersFull as u8),
-        Ending::Spent => end_with(out, b"spent\n", Status::Spent as u8),
-    }
-}
-
-// Writes the last line of a command, where its words are one, and gives its status.
-fn finish<Si: Sink>(alloc: Global, ending: Option<Ending>, out: &mut Si) -> u8
-    ensures { Finishes ending result (Si.taken out.old) (Si.taken out.new) (Si.faults out.old) (Si.faults out.new) }
-{
-    match ending {
-        Some(ending) => finish_run(alloc, ending, out),
-        None => end_with(out, b"words\n", Status::Words as u8),
     }
 }
 

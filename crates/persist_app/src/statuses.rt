@@ -15,6 +15,8 @@ pub enum Status {
     Output = 5,
     /// A store call failed.
     Store = 6,
+    /// Every writer was stopped, or ended by a call that failed, before the feed's end.
+    Short = 7,
     /// Memory was refused.
     Memory = 8,
     /// The shard in the store is damaged.
@@ -23,4 +25,6 @@ pub enum Status {
     MembersFull = 10,
     /// The shard has its last version.
     Spent = 11,
+    /// The shard doesn't suit the command.
+    Unfit = 12,
 }

@@ -1,9 +1,10 @@
 //! The program `persist_file`: like `persist`, over a store in the file that its first argument names.
 #![tactic(auto)]
 
+use crew::OpenGate;
 use feed_text::{ReaderSource, WriterSink, put_all};
 use journal_core::FileDisk;
-use persist_app::{SystemClock, persist_on_disk, persist_plain};
+use persist_app::{SystemClock, persist_on_disk, persist_top};
 use std::alloc::Global;
 use std::io::ErrorKind;
 use std::process::ExitCode;
@@ -58,10 +59,28 @@ fn main(rt: HostRuntime) -> ExitCode {
     let mut clock = SystemClock::new(&rt);
     let Some(path) = path else {
         let store = MemStore::new(alloc, FaultList::new(alloc));
-        let ended = persist_plain(alloc, &words, &mut source, &mut sink, store, &mut clock);
+        let ended = persist_top(
+            &rt,
+            alloc,
+            &words,
+            &mut source,
+            &mut sink,
+            store,
+            &mut clock,
+            &OpenGate,
+        );
         return ExitCode::from(ended.status);
     };
     let disk = FileDisk::open(&rt, path.as_str());
-    let ended = persist_on_disk(alloc, &words, &mut source, &mut sink, disk, &mut clock);
+    let ended = persist_on_disk(
+        &rt,
+        alloc,
+        &words,
+        &mut source,
+        &mut sink,
+        disk,
+        &mut clock,
+        &OpenGate,
+    );
     ExitCode::from(ended.status)
 }

@@ -1,8 +1,9 @@
 //! The program `persist`: reads standard input, writes standard output, and ends with the command's status.
 #![tactic(auto)]
 
+use crew::OpenGate;
 use feed_text::{ReaderSource, WriterSink, put_all};
-use persist_app::{SystemClock, persist_plain};
+use persist_app::{SystemClock, persist_top};
 use std::alloc::Global;
 use std::io::ErrorKind;
 use std::process::ExitCode;
@@ -36,6 +37,15 @@ fn main(rt: HostRuntime) -> ExitCode {
     let mut source = ReaderSource::new(rt.stdin());
     let mut clock = SystemClock::new(&rt);
     let store = MemStore::new(alloc, FaultList::new(alloc));
-    let ended = persist_plain(alloc, &words, &mut source, &mut sink, store, &mut clock);
+    let ended = persist_top(
+        &rt,
+        alloc,
+        &words,
+        &mut source,
+        &mut sink,
+        store,
+        &mut clock,
+        &OpenGate,
+    );
     ExitCode::from(ended.status)
 }

@@ -9,7 +9,7 @@ use Rattle.store_core.specs.Stores.{Stored}
 use Rattle.store_core.specs.Histories.{History, reply}
 use Rattle.store_core.specs.Newest.{replay_back}
 use Rattle.state_core.specs.States.{ShardState}
-use Rattle.state_core.specs.VersionReading.{most}
+use Rattle.update_core.specs.Limits.{most}
 use Rattle.history_core.specs.Discipline.{LawfulBack}
 use Rattle.history_core.specs.Laws.{LastIs}
 use Rattle.history_core.specs.Stands.{StandsFor, accepted}

@@ -22,7 +22,7 @@ use Rattle.state_core.specs.declared.transitions.Transition.TheVariants.{Join, M
 use Rattle.state_core.specs.Lists.{Among}
 use Rattle.state_core.specs.States.{ShardState}
 use Rattle.state_core.specs.Steps.{Stands, joining}
-use Rattle.state_core.specs.VersionReading.{version_in}
+use Rattle.version_codec.specs.Reading.{version_in}
 use Rattle.state_core.proofs.ListLemmas.{among_back, among_map}
 use Rattle.history_core.specs.Discipline.{LawfulBack}
 use Rattle.history_core.specs.Stands.{StandsFor}

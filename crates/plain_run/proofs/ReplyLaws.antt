@@ -9,7 +9,7 @@ use Rattle.state_core.specs.declared.transitions.Transition.{Transition}
 use Rattle.store_core.specs.declared.part_keys.PartKey.{PartKey}
 use Rattle.state_core.specs.declared.transitions.Transition.TheVariants.{Append, Leave}
 use Rattle.history_core.specs.declared.asked.Asked.TheVariants as asks
-use Rattle.state_core.specs.VersionReading.{most}
+use Rattle.update_core.specs.Limits.{most}
 use Rattle.write_client.specs.Drafting.{counted_weight}
 use Rattle.history_core.specs.declared.asked.Asked.{Asked}
 use Rattle.history_core.specs.declared.write_answers.WriteAnswer.{WriteAnswer}

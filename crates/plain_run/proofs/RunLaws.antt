@@ -13,7 +13,7 @@ use Rattle.store_core.specs.declared.entries.Entry.{Entry}
 use Rattle.store_core.specs.Stores.{Stored}
 use Rattle.store_core.specs.Histories.{History}
 use Rattle.store_core.specs.Newest.{replay_back}
-use Rattle.state_core.specs.VersionReading.{most}
+use Rattle.update_core.specs.Limits.{most}
 use Rattle.plain_run.specs.declared.run_faults.RunFault.{RunFault}
 use Rattle.plain_run.specs.declared.run_faults.RunFault.TheVariants as runs
 use Rattle.plain_run.specs.declared.session_faults.SessionFault.{SessionFault}

@@ -4,7 +4,7 @@ use Rattle.update_core.specs.declared.updates.Update.{Update}
 use Rattle.store_core.specs.declared.shards.ShardId.{ShardId}
 use Rattle.store_core.specs.declared.entries.Entry.{Entry}
 use Rattle.store_core.specs.Stores.{Stored}
-use Rattle.state_core.specs.VersionReading.{most}
+use Rattle.update_core.specs.Limits.{max_members, most}
 use Rattle.machine_core.specs.Machines.{Words}
 use Rattle.driving.specs.Drives.{Answered, Scanned}
 use Rattle.plain_run.specs.declared.session_faults.SessionFault.{SessionFault}
@@ -16,7 +16,7 @@ ScannedSpent shard start es now = Scanned shard (λ n s. n ≡ most) start es no
 
 -- 256 members stand at such a Scan
 abbrev pub ScannedFull : ShardId → Stored → List Entry → List Entry → Type 0
-ScannedFull shard start es now = Scanned shard (λ n s. length s.members ≡ 256) start es now
+ScannedFull shard start es now = Scanned shard (λ n s. length s.members ≡ max_members) start es now
 
 -- what has become of a command by a fault
 abbrev pub Failed : ShardId → SessionFault → Stored → List Entry → List Entry → Type 0

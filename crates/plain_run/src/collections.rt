@@ -22,15 +22,16 @@ pub struct PlainCollection {
 }
 
 impl Model for PlainCollection {
-    ghost use Rattle.std.specs.Prelude.{◌^◌, ◌≤◌};
+    ghost use Rattle.std.specs.Prelude.{◌≤◌};
     ghost use Rattle.update_core.specs.Collections.{Collection};
+    ghost use Rattle.update_core.specs.Limits.{max_weight};
     ghost use Rattle.update_core.specs.Updates.{weight_of};
 
     ghost Value = { Collection };
 
     ghost view = { λ c. record { updates = c.updates; since = c.since; upper = c.upper; weight = c.weight } };
 
-    ghost invariant = { λ c. (weight_of c.updates ≤ c.weight) × (c.weight ≤ 2 ^ 62) };
+    ghost invariant = { λ c. (weight_of c.updates ≤ c.weight) × (c.weight ≤ max_weight) };
 }
 
 /// The place of the first row that is outside the append's range.

@@ -1,7 +1,7 @@
 // The line `compact` of a feed: a compactor merges what is due, the session's reader renews its lease, and what then lies below the
 // floor is collected once.
 ghost use Rattle.std.specs.Prelude.{◌≡◌, ◌≤◌, ◌<◌, ◌+◌, ℕ, Err, IfOk, OnOk};
-ghost use Rattle.state_core.specs.VersionReading.{most};
+ghost use Rattle.update_core.specs.Limits.{most};
 ghost use Rattle.driving.specs.StoreTurns.{StoreFailed};
 ghost use Rattle.driving.specs.Goings.{Goes, GrowsBy};
 ghost use Rattle.feed_text.specs.declared.feed_lines.FeedLine.TheVariants as lines;

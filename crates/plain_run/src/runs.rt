@@ -1,7 +1,7 @@
 // The command `run`: a feed is read, executed by a session over the store, and answered.
 ghost use Rattle.std.specs.Prelude.{◌≡◌, ◌≤◌, ◌<◌, ◌+◌, Err, OnOk};
 ghost use Rattle.std.specs.List.{AllByRecursion};
-ghost use Rattle.state_core.specs.VersionReading.{most};
+ghost use Rattle.update_core.specs.Limits.{most};
 ghost use Rattle.feed_text.specs.declared.limits.TheConstants.{MAX_BYTES};
 ghost use Rattle.feed_text.specs.Grammar.{IsCommand, IsFeed};
 ghost use Rattle.causes.specs.Causes.{Rose};

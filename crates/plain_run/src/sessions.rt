@@ -4,7 +4,7 @@ ghost use Rattle.feed_text.specs.declared.limits.TheConstants.{MAX_ROWS};
 ghost use Rattle.update_core.specs.Collections.{append_answer, after_append, listen_answer, snapshot_answer};
 ghost use Rattle.update_core.specs.Frontiers.{after, covers};
 ghost use Rattle.update_core.specs.Updates.{weight_of};
-ghost use Rattle.state_core.specs.VersionReading.{most};
+ghost use Rattle.update_core.specs.Limits.{most};
 ghost use Rattle.plain_run.specs.PlainRuns.{append_reply, append_text, collection_after, is_outside, listen_text, since_reply, snapshot_text, view_since, view_with};
 ghost use Rattle.driving.specs.StoreTurns.{StoreFailed};
 ghost use Rattle.driving.specs.Goings.{Goes};

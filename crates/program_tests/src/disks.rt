@@ -1,10 +1,14 @@
 // Tests of a command over a disk in memory.
+use crate::programs::words_of;
 use causes::NumberList;
+use crew::OpenGate;
 use feed_text::{MemSink, MemSource};
 use journal_core::{Disk, MemDisk};
 use persist_app::*;
 use std::alloc::{AllocError, Global};
+use std::sync::Wait;
 use std::test::Fail;
+use std::thread::Threads;
 use store_core::Bytes;
 
 const FEED: &[u8] = b"append 0 10\n3 1 apple\n4 1 pear\n7 -1 apple\n.\nsnapshot 5\nsnapshot 7\n";
@@ -41,13 +45,27 @@ struct Came {
     disk: MemDisk,
 }
 
-fn run_over(alloc: Global, feed: &[u8], disk: MemDisk) -> Result<Came, Fail> {
-    let mut words = Vec::new(alloc);
-    words.push(String::from_str(alloc, "run")?)?;
+fn words_over<R: Threads + Wait + Sync>(
+    rt: &R,
+    alloc: Global,
+    line: &str,
+    feed: &[u8],
+    disk: MemDisk,
+) -> Result<Came, Fail> {
+    let words = words_of(alloc, line)?;
     let mut source = MemSource::new(feed.to_vec(alloc)?, NumberList::new(alloc));
     let mut sink = MemSink::new(alloc, NumberList::new(alloc));
     let mut clock = FixedClock(7);
-    let ended = persist_on_disk(alloc, &words, &mut source, &mut sink, disk, &mut clock);
+    let ended = persist_on_disk(
+        rt,
+        alloc,
+        &words,
+        &mut source,
+        &mut sink,
+        disk,
+        &mut clock,
+        &OpenGate,
+    );
     let written = sink.taken().to_vec(alloc)?;
     let status = ended.status;
     Ok(match ended.left {
@@ -69,12 +87,26 @@ fn run_over(alloc: Global, feed: &[u8], disk: MemDisk) -> Result<Came, Fail> {
 #[test]
 fn a_file_is_opened_again(rt: HostRuntime) -> Result<(), Fail> {
     let alloc = rt.alloc();
-    let first = run_over(alloc, FEED, disk(alloc, &[], None)?)?;
+    let first = words_over(&rt, alloc, "run", FEED, disk(alloc, &[], None)?)?;
     assert_eq!(rt; (first.status, first.stored), (0, true));
     assert_eq!(rt; first.written.as_slice(), REPLIES);
-    let later = run_over(alloc, LATER_FEED, first.disk)?;
+    let later = words_over(&rt, alloc, "run", LATER_FEED, first.disk)?;
     assert_eq!(rt; (later.status, later.stored), (0, true));
     assert_eq!(rt; later.written.as_slice(), LATER_REPLIES);
+    Ok(())
+}
+
+#[test]
+fn a_crew_works_over_a_file(rt: HostRuntime) -> Result<(), Fail> {
+    let alloc = rt.alloc();
+    let line = "ingest --writers 2 --compactors 1 --collectors 1";
+    let text = b"append 0 10\n3 1 apple\n.\nsnapshot 9\n";
+    let got = words_over(&rt, alloc, line, text, disk(alloc, &[], None)?)?;
+    assert_eq!(rt; (got.status, got.stored), (0, true));
+    assert_eq!(rt; got.written.as_slice(), b"1 apple\n.\n".as_slice());
+    let later = words_over(&rt, alloc, "run", b"snapshot 9\n", got.disk)?;
+    assert_eq!(rt; (later.status, later.stored), (0, true));
+    assert_eq!(rt; later.written.as_slice(), b"1 apple\n.\n".as_slice());
     Ok(())
 }
 
@@ -104,7 +136,7 @@ fn a_disk_that_is_not_opened_says_why(rt: HostRuntime) -> Result<(), Fail> {
             b"damaged at 8\n".as_slice(),
         ),
     ] {
-        let got = run_over(alloc, FEED, disk(alloc, bytes, fails)?)?;
+        let got = words_over(&rt, alloc, "run", FEED, disk(alloc, bytes, fails)?)?;
         assert_eq!(rt; (got.status, got.stored), (status, false), "{name}");
         assert_eq!(rt; got.written.as_slice(), written, "{name}");
     }

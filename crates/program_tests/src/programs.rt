@@ -7,7 +7,7 @@ use causes::NumberList;
 use feed_text::{Feed, FeedLine, MemSink, MemSource, RunReply, parse_feed, print_reply};
 use persist_app::*;
 use plain_run::PlainCollection;
-use state_core::{Transition, decode_version};
+use state_core::Transition;
 use std::alloc::{AllocError, Global};
 use std::test::Fail;
 use store_core::{
@@ -15,8 +15,10 @@ use store_core::{
     ShardList, Store, Version,
 };
 use update_core::Frontier;
+use version_codec::decode_version;
 
-fn numbers(alloc: Global, items: &[u64]) -> Result<NumberList, AllocError> {
+/// A list of numbers.
+pub fn numbers(alloc: Global, items: &[u64]) -> Result<NumberList, AllocError> {
     let mut numbers = NumberList::new(alloc);
     for item in items {
         numbers.push(*item)?;
@@ -24,7 +26,8 @@ fn numbers(alloc: Global, items: &[u64]) -> Result<NumberList, AllocError> {
     Ok(numbers)
 }
 
-fn words_of(alloc: Global, text: &str) -> Result<Vec<String>, AllocError> {
+/// The words of a line.
+pub fn words_of(alloc: Global, text: &str) -> Result<Vec<String>, AllocError> {
     let mut words = Vec::new(alloc);
     for word in text.split_whitespace() {
         words.push(String::from_str(alloc, word)?)?;

@@ -8,7 +8,7 @@ use Rattle.store_core.specs.Ports.{Answered}
 use Rattle.store_core.specs.Stores.{Stored}
 use Rattle.store_core.specs.Newest.{mine_back}
 use Rattle.state_core.specs.declared.kinds.Kind.TheVariants.{Reader as AsReader}
-use Rattle.state_core.specs.VersionReading.{most}
+use Rattle.update_core.specs.Limits.{most}
 use Rattle.history_core.specs.Members.{JoinedAs}
 use Rattle.load_core.specs.declared.tryings.Trying.{Trying}
 use Rattle.load_core.specs.Costing.{CostKept, IsPrepared}

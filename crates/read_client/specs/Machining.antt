@@ -7,6 +7,7 @@ use Rattle.store_core.specs.declared.replies.Reply.{Reply}
 use Rattle.store_core.specs.declared.entries.Entry.{Entry}
 use Rattle.store_core.specs.Stores.{Stored}
 use Rattle.state_core.specs.declared.transitions.Transition.{Transition}
+use Rattle.history_core.specs.Costs.{change_base}
 use Rattle.history_core.specs.declared.asked.Asked.{Asked}
 use Rattle.history_core.specs.declared.asked.Asked.TheVariants as asks
 use Rattle.history_core.specs.declared.read_answers.ReadAnswer.{ReadAnswer}
@@ -94,7 +95,7 @@ machine = record {
   Follows = Follows;
   Spares = Spares;
   Legal = Legal;
-  least = 3;
+  least = change_base;
   CostAt = CostAt;
   CostOver = CostOver;
 }

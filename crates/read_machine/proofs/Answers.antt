@@ -24,7 +24,7 @@ use Rattle.state_core.specs.declared.members.Member.{Member}
 use Rattle.state_core.specs.Refusals.{member_of}
 use Rattle.state_core.specs.Lists.{Among}
 use Rattle.state_core.specs.States.{Names, ShardState}
-use Rattle.state_core.specs.VersionReading.{most}
+use Rattle.update_core.specs.Limits.{most}
 use Rattle.state_core.proofs.ListLemmas.{bool_cases, each_at}
 use Rattle.history_core.specs.Costs.{commits_on, failed_calls, foreign_commits}
 use Rattle.history_core.specs.Discipline.{GotAs, Hold, LawfulBack}

@@ -15,7 +15,7 @@ use Rattle.store_core.specs.Histories.{faults_of, reply, reply_by}
 use Rattle.store_core.specs.Ports.{OfOthers}
 use Rattle.store_core.specs.Newest.{replay_back}
 use Rattle.state_core.specs.States.{ShardState}
-use Rattle.state_core.specs.VersionReading.{most}
+use Rattle.update_core.specs.Limits.{most}
 use Rattle.history_core.specs.Costs.{failed_calls}
 use Rattle.load_core.specs.declared.damages.Damage.TheVariants as damages
 use Rattle.load_core.specs.declared.fetches.Fetched.{Fetched}

@@ -16,7 +16,7 @@ use Rattle.store_core.specs.Histories.{reply}
 use Rattle.store_core.specs.Ports.{Answered, OfOthers, answered}
 use Rattle.store_core.specs.Newest.{mine_back, replay_back}
 use Rattle.state_core.specs.States.{ShardState}
-use Rattle.state_core.specs.VersionReading.{most}
+use Rattle.update_core.specs.Limits.{most}
 use Rattle.history_core.specs.Discipline.{LawfulBack, ShowsState}
 use Rattle.history_core.specs.Laws.{LastIs}
 use Rattle.history_core.specs.Members.{JoinedAs}

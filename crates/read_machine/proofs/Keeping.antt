@@ -13,8 +13,8 @@ use Rattle.store_core.specs.Newest.{mine_back}
 use Rattle.store_core.specs.Ports.{Answered}
 use Rattle.store_core.specs.Stores.{Stored}
 use Rattle.state_core.specs.States.{ShardState, keys_of}
-use Rattle.state_core.specs.VersionReading.{most}
-use Rattle.state_core.proofs.VersionFacts.{version_in_state}
+use Rattle.update_core.specs.Limits.{most}
+use Rattle.version_codec.proofs.Facts.{version_in_state}
 use Rattle.history_core.specs.Costs.{failed_calls}
 use Rattle.history_core.specs.Discipline.{Allows, ShowsState}
 use Rattle.history_core.specs.Placing.{places}

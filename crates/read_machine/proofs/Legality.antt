@@ -22,7 +22,7 @@ use Rattle.store_core.specs.Newest.{mine_back, replay_back}
 use Rattle.state_core.specs.declared.members.Member.{Member}
 use Rattle.state_core.specs.Refusals.{member_of}
 use Rattle.state_core.specs.States.{IsState, Names, ShardState, is_writer}
-use Rattle.state_core.specs.VersionReading.{most}
+use Rattle.update_core.specs.Limits.{most}
 use Rattle.state_core.proofs.ListLemmas.{each_map}
 use Rattle.history_core.specs.Accepting.{is_cas}
 use Rattle.history_core.specs.Discipline.{GotAs, Hold, IsGot, LawfulBack}

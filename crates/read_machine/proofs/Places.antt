@@ -18,7 +18,7 @@ use Rattle.store_core.proofs.NewestLaws.{mine-newest, replay-newest}
 use Rattle.state_core.specs.declared.kinds.Kind.{Kind}
 use Rattle.state_core.specs.States.{Names, ShardState, is_writer}
 use Rattle.state_core.specs.Steps.{Stands}
-use Rattle.state_core.specs.VersionReading.{most}
+use Rattle.update_core.specs.Limits.{most}
 use Rattle.state_core.proofs.ListLemmas.{among_map, bool_cases}
 use Rattle.history_core.specs.Accepting.{is_cas}
 use Rattle.history_core.specs.Answers.{own_of, own_past}

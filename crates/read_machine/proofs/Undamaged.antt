@@ -12,7 +12,8 @@ use Rattle.update_core.specs.declared.updates.Update.{Update}
 use Rattle.update_core.specs.Updates.{weight_of}
 use Rattle.part_codec.specs.declared.part_faults.PartFault.{PartFault}
 use Rattle.part_codec.specs.Reading.{all_of}
-use Rattle.store_core.specs.ByteLists.{IsBytes}
+use Rattle.byte_core.proofs.ByteLists.{bytes_of_test}
+use Rattle.byte_core.specs.ByteLists.{IsBytes}
 use Rattle.store_core.specs.declared.shards.ShardId.{ShardId}
 use Rattle.store_core.specs.declared.part_keys.PartKey.{PartKey}
 use Rattle.store_core.specs.declared.calls.Call.{Call}
@@ -29,7 +30,8 @@ use Rattle.state_core.proofs.ListLemmas.{bool_cases, each_at}
 use Rattle.history_core.specs.Discipline.{GotAs, Hold, IsGot, LawfulBack}
 use Rattle.history_core.specs.Laws.{LastIs}
 use Rattle.history_core.specs.Placing.{IsAnsweredScan, placed}
-use Rattle.history_core.specs.Readings.{are_bytes, rows_in}
+use Rattle.history_core.specs.Readings.{rows_in}
+use Rattle.byte_core.specs.ByteLists.{are_bytes}
 use Rattle.history_core.specs.Stands.{BatchHolds, IsPresent, PartRows, StandsFor, accepted, appended, rows_of_blob, rows_or_none}
 use Rattle.history_core.specs.Stands.{rows_under}
 use Rattle.history_core.proofs.Bases.{Base, base_of}
@@ -47,16 +49,6 @@ use Rattle.read_machine.proofs.PartWeights.{front_light, front_more, spine_light
 use Rattle.read_machine.proofs.Stretch.{replay_behind}
 
 -- ---- bytes that are a part
-
-both : (a b : Bool) → a && b ≡ true → (a ≡ true) × (b ≡ true)
-both true true h = (refl, refl)
-both true false h = cc
-both false b h = cc
-
-bytes_of_test : (bytes : List ℕ) → are_bytes bytes ≡ true → IsBytes bytes
-bytes_of_test [] h i = omega arith
-bytes_of_test (b ∷ bs) h zero = ltb-true b 256 (both (nat_lt b 256) (are_bytes bs) h).0
-bytes_of_test (b ∷ bs) h (suc i) = bytes_of_test bs (both (nat_lt b 256) (are_bytes bs) h).1 i
 
 ok_from : (r : Result (List Update) PartFault) (rows : List Update) → result_ok r ≡ Some rows → r ≡ Ok rows
 ok_from (Ok found) rows h = let same : found ≡ rows = cc in ap (λ (x : List Update). Ok x) same

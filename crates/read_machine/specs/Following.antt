@@ -9,7 +9,7 @@ use Rattle.store_core.specs.Stores.{Stored}
 use Rattle.store_core.specs.Newest.{mine_back, replay_back}
 use Rattle.state_core.specs.declared.kinds.Kind.{Kind}
 use Rattle.state_core.specs.States.{ShardState}
-use Rattle.state_core.specs.VersionReading.{most}
+use Rattle.update_core.specs.Limits.{most}
 use Rattle.history_core.specs.Costs.{failed_calls, WithinReads, read_base}
 use Rattle.history_core.specs.Discipline.{GotAs, Hold}
 use Rattle.history_core.specs.Laws.{LastIs}

@@ -1,5 +1,6 @@
 // The trait of a question to a shard.
 ghost use Rattle.std.specs.Prelude.{◌≡◌, ◌≤◌, ◌^◌, IfOk};
+ghost use Rattle.update_core.specs.Limits.{max_weight};
 ghost use Rattle.update_core.specs.Updates.{weight_of};
 ghost use Rattle.read_machine.specs.Questions.{Questions};
 
@@ -31,7 +32,7 @@ pub trait Question: Drop {
         state: &State,
         rows: &UpdateList,
     ) -> Result<Self::Answer, AllocError>
-        requires { weight_of rows.now ≤ 2 ^ 62 }
+        requires { weight_of rows.now ≤ max_weight }
         ensures { IfOk result (λ answer. answer ≡ question.answer self.now state.now rows.now) };
 
     /// The answer where the member doesn't stand in the newest version, which is this one.

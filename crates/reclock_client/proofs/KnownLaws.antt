@@ -16,33 +16,42 @@ use Rattle.remap_core.proofs.StartLaws.{snapshot_starts}
 use Rattle.remap_core.proofs.StepLaws.{listen_extends}
 use Rattle.reclock_client.specs.declared.intakes.Intake.{Intake}
 use Rattle.reclock_client.specs.Commands.{Next, strange, with_changes, with_content}
-use Rattle.reclock_client.specs.Known.{AreBytes, ContentIsKnown, IsKnown, StepIsKnown}
+use Rattle.reclock_client.specs.Known.{ContentIsKnown, IsKnown, StepIsKnown}
 use Rattle.reclock_client.specs.Reading.{foreign_time, is_one_byte, is_rise, left, risen}
 
 -- a row that isn't foreign raises a partition
-raises_one : (datum : List ℕ) (time : ℕ) (diff : ℤ) (room : Bool) → AllByRecursion (λ b. b < 256) datum →
+raises_one : (datum : List ℕ) (time : ℕ) (diff : ℤ) (room : Bool) →
     is_one_byte datum && (nat_lt 0 (offset_of diff) && room) ≡ true → Raises (record { datum = datum; time = time; diff = diff })
-raises_one [] t d r bytes e = cc
-raises_one (p ∷ []) t (pos n) r bytes e =
-    record { partition = p; amount = n; known = bytes.0; some = positive (nat_lt 0 n) r refl e; is = refl }
+raises_one [] t d r e = cc
+raises_one (p ∷ []) t (pos n) r e =
+    record { partition = p; amount = n; known = byte (nat_lt p 256) refl e; some = positive (nat_lt p 256) (nat_lt 0 n) r refl e; is = refl }
   where
-    positive : (a b : Bool) → nat_lt 0 n ≡ a → a && b ≡ true → 0 < n
-    positive true b f e = grind (arith, nat_tests)
-    positive false b f e = cc
-raises_one (p ∷ []) t (negsuc n) r bytes e = cc
-raises_one (p ∷ q ∷ ps) t d r bytes e = cc
+    byte : (a : Bool) → nat_lt p 256 ≡ a → a && (nat_lt 0 n && r) ≡ true → p < 256
+    byte true f e = grind (arith, nat_tests)
+    byte false f e = cc
 
-none_foreign : (f : List ℕ) (us : List Update) → AreBytes us → foreign_time f us ≡ None → AllByRecursion Raises us
-none_foreign f [] bytes e = tt
-none_foreign f (u ∷ us) bytes e = pick (is_rise f u.datum u.diff) refl e (none_foreign (risen f u.datum u.diff) us bytes.1)
+    positive : (z a b : Bool) → nat_lt 0 n ≡ a → z && (a && b) ≡ true → 0 < n
+    positive true true b f e = grind (arith, nat_tests)
+    positive true false b f e = cc
+    positive false a b f e = cc
+raises_one (p ∷ []) t (negsuc n) r e = none (nat_lt p 256) e
+  where
+    none : (z : Bool) → z && false ≡ true → Raises (record { datum = p ∷ []; time = t; diff = negsuc n })
+    none true e = cc
+    none false e = cc
+raises_one (p ∷ q ∷ ps) t d r e = cc
+
+none_foreign : (f : List ℕ) (us : List Update) → foreign_time f us ≡ None → AllByRecursion Raises us
+none_foreign f [] e = tt
+none_foreign f (u ∷ us) e = pick (is_rise f u.datum u.diff) refl e (none_foreign (risen f u.datum u.diff) us)
   where
     pick : (b : Bool) → is_rise f u.datum u.diff ≡ b → cond b (foreign_time (risen f u.datum u.diff) us) (Some u.time) ≡ None →
         (foreign_time (risen f u.datum u.diff) us ≡ None → AllByRecursion Raises us) → AllByRecursion Raises (u ∷ us)
     pick true h e rest =
-        (raises_one u.datum u.time u.diff (nat_le (offset f (partition_of u.datum) + offset_of u.diff) (2 ^ 48)) bytes.0 h, rest e)
+        (raises_one u.datum u.time u.diff (nat_le (offset f (partition_of u.datum) + offset_of u.diff) (2 ^ 48)) h, rest e)
     pick false h e rest = cc
 
-after_covers : (s : ℕ) → covers (after s) s ≡ true
+pub after_covers : (s : ℕ) → covers (after s) s ≡ true
 after_covers s = pick (nat_lt s (2 ^ 64 - 1)) refl
   where
     itself : nat_lt s (s + 1) ≡ true
@@ -53,14 +62,14 @@ after_covers s = pick (nat_lt s (2 ^ 64 - 1)) refl
     pick false e = refl
 
 pub content_is_known : ContentIsKnown
-content_is_known us c rows is beyond bytes none =
+content_is_known us c rows is beyond none =
     subst (λ (f : Option ℕ). IsKnown us (with_content c rows f).0) (sym none) there
   where
     here : List Update
     here = rows_at c.since (sum_of us c.since)
 
     raise : AllByRecursion Raises here
-    raise = subst (λ (rs : List Row). AllByRecursion Raises (rows_at c.since rs)) is (none_foreign unset (rows_at c.since rows) bytes none)
+    raise = subst (λ (rs : List Row). AllByRecursion Raises (rows_at c.since rs)) is (none_foreign unset (rows_at c.since rows) none)
 
     there : IsKnown us (with_content c rows None).0
     there =
@@ -69,7 +78,7 @@ content_is_known us c rows is beyond bytes none =
         (record { bindings = both.0; rises = both.1; past = after_covers c.since })
 
 pub step_is_known : StepIsKnown
-step_is_known us c from to rows k taken le is bytes order none =
+step_is_known us c from to rows k taken le is order none =
     subst (λ (b : Bool). IsKnown us (by b (foreign_time (reached c.bindings) rows)).0) (sym order)
     (subst (λ (f : Option ℕ). IsKnown us (with_changes c rows to f).0) (sym none) there)
   where
@@ -80,7 +89,7 @@ step_is_known us c from to rows k taken le is bytes order none =
     before = subst (λ (i : Intake). IsBindingsOf us c.since c.synced (with_rows c.bindings (left c.since i))) taken k.bindings
 
     raise : AllByRecursion Raises (slice_of us c.synced to)
-    raise = subst (λ (rs : List Update). AllByRecursion Raises rs) is (none_foreign (reached c.bindings) rows bytes none)
+    raise = subst (λ (rs : List Update). AllByRecursion Raises rs) is (none_foreign (reached c.bindings) rows none)
 
     there : IsKnown us (with_changes c rows to None).0
     there =

@@ -12,7 +12,7 @@ use Rattle.update_core.proofs.TallyLaws.{moved-append}
 use Rattle.remap_core.specs.RemapShards.{NeverFalls, change_at}
 use Rattle.remap_core.proofs.RemapSums.{equal_collections}
 use Rattle.remap_core.proofs.StepLaws.{Part, part_from_whole, part_of, rises_in_whole, whole_from_part}
-use Rattle.reclock_client.specs.Known.{CollectionsAgree, KnownStays, known}
+use Rattle.reclock_client.specs.Known.{CollectionsAgree, KnownStays}
 
 uncovered : (g : Option ℕ) (t u : ℕ) → t ≤ u → covers g t ≡ false → covers g u ≡ false
 uncovered None t u le e = absurd (let bad : true ≡ false = e in cc)
@@ -35,8 +35,8 @@ rises_in_part part us g h up = record { rises = λ q x c. subst (λ (z : ℤ). p
 
 pub known_stays : KnownStays
 known_stays us more c k out = record {
-  bindings = whole_from_part part (moved (us ++ more) c.since) c.synced (known c) grown
-      (part_from_whole part (moved us c.since) c.synced (known c) (part_of (moved us c.since) c.synced) k.bindings);
+  bindings = whole_from_part part (moved (us ++ more) c.since) c.synced c.bindings grown
+      (part_from_whole part (moved us c.since) c.synced c.bindings (part_of (moved us c.since) c.synced) k.bindings);
   rises = rises_in_whole part (moved (us ++ more) c.since) c.synced grown
       (rises_in_part part (moved us c.since) c.synced (part_of (moved us c.since) c.synced) k.rises);
   past = k.past;
@@ -57,5 +57,5 @@ known_stays us more c k out = record {
 
 pub collections_agree : CollectionsAgree
 collections_agree us a b rows t k h from_a from_b to_a to_b =
-    equal_collections us a.since b.since a.synced b.synced (known a)
-    (known b) k.bindings h.bindings k.rises h.rises rows t from_a from_b to_a to_b
+    equal_collections us a.since b.since a.synced b.synced a.bindings
+    b.bindings k.bindings h.bindings k.rises h.rises rows t from_a from_b to_a to_b

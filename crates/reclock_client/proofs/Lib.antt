@@ -16,6 +16,15 @@ pub mod StartTurns
 pub mod Owning
 pub mod OwnPolls
 pub mod KnownStays
+pub mod Growing
+pub mod Agreeing
+pub mod Telling
+pub mod Learning
+pub mod Hearing
+pub mod Keeping
+pub mod Sane
+pub mod Undamaged
+pub mod Foreigners
 pub mod Proposing
 pub mod MintSums
 pub mod Raising

@@ -7,7 +7,7 @@ use Rattle.std.specs.List.{AllByRecursion, flat_map, position_from, range_with_l
 use Rattle.std.specs.Prelude.{nat_le, nat_lt, position, pos, ◌==◌}
 use Rattle.update_core.specs.declared.updates.Update.{Update}
 use Rattle.update_core.specs.Frontiers.{after, covers}
-use Rattle.state_core.specs.VersionReading.{most}
+use Rattle.update_core.specs.Limits.{most}
 use Rattle.remap_core.specs.Offsets.{offset}
 use Rattle.remap_core.specs.RemapShards.{partitions}
 use Rattle.load_core.specs.declared.begin_faults.BeginFault.TheVariants as faults

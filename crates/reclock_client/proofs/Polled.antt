@@ -258,13 +258,15 @@ module _ (client : ℕ) (front now : Option History) (o : Operator) (s : IsSound
 -- ---- what was ready is what was polled
 
 pub polled_ready : (client : ℕ) (front now : Option History) (o ready new : Operator) (c : Course) → c ≡ bound o.course →
-    Starts (part_of c.step) (record o { course = c }) ready → IsSound ready → InTurn ready → (r : Result (Poll ClockAnswer) AllocError) →
+    Starts (part_of c.step) (record o { course = c }) ready → IsSound ready → InTurn ready → IsOpen ready (part_of ready.course.step) →
+    (r : Result (Poll ClockAnswer) AllocError) →
     IfOk r (PolledBy (part_of ready.course.step) client front now ready new) → IfOk r (PolledNow client front now o new)
-polled_ready client front now o ready new c is starts sound turn (Ok poll) polled = record {
+polled_ready client front now o ready new c is starts sound turn is_open (Ok poll) polled = record {
   ready = ready;
   readies = subst (λ (x : Course). Starts (part_of x.step) (record o { course = x }) ready) is starts;
   sound = sound;
   turn = turn;
+  is_open = is_open;
   polled = polled;
 }
-polled_ready client front now o ready new c is starts sound turn (Err e) polled = tt
+polled_ready client front now o ready new c is starts sound turn is_open (Err e) polled = tt

@@ -11,7 +11,7 @@ use Rattle.store_core.specs.declared.part_keys.PartKey.{PartKey}
 use Rattle.state_core.specs.declared.transitions.Transition.{Transition}
 use Rattle.state_core.specs.declared.transitions.Transition.TheVariants.{Append, Leave}
 use Rattle.state_core.specs.States.{ShardState}
-use Rattle.state_core.specs.VersionReading.{version_in}
+use Rattle.version_codec.specs.Reading.{version_in}
 use Rattle.history_core.specs.declared.asked.Asked.{Asked}
 use Rattle.history_core.specs.declared.asked.Asked.TheVariants as asks
 use Rattle.load_core.specs.Runs.{OnlyCarries}
@@ -148,7 +148,7 @@ module _ (o : Operator) (rows : List Update) (expected : ℕ) (new : Option ℕ)
   publish_append other errand e h own = absurd own
 
 -- the open command is the step's
-own_at : (o : Operator) (errand : Errand) (part : Part) → o.course.errand ≡ Some errand → part_of o.course.step ≡ part → AsksOwn o →
+pub own_at : (o : Operator) (errand : Errand) (part : Part) → o.course.errand ≡ Some errand → part_of o.course.step ≡ part → AsksOwn o →
     AsksAt (asks_of o) (duties o) o.course.step part
 own_at o errand part e at own = subst (λ (p : Part). AsksAt (asks_of o) (duties o) o.course.step p) at
     (subst (λ (x : Option Errand). IfSome x (λ errand. AsksAt (asks_of o) (duties o) o.course.step (part_of o.course.step))) e own)

@@ -16,7 +16,7 @@ use Rattle.reclock_client.specs.declared.errands.Errand.TheVariants as errands
 use Rattle.reclock_client.specs.declared.intakes.Intake.TheVariants as intakes
 use Rattle.reclock_client.specs.declared.steps.Step.{Step}
 use Rattle.reclock_client.specs.declared.steps.Step.TheVariants as steps
-use Rattle.reclock_client.specs.Commands.{after_join_reader, after_leave_reader, after_listen, after_snapshot, ends, goes, minted_at}
+use Rattle.reclock_client.specs.Commands.{after_join_reader, after_leave_reader, after_listen, after_snapshot, ends, forgotten, goes, minted_at}
 use Rattle.reclock_client.specs.Commands.{nothing_yet}
 use Rattle.reclock_client.specs.Commands.{read_all, strange, with_changes, with_content, with_late, with_listen, with_step}
 use Rattle.reclock_client.specs.Reading.{foreign_time, in_time}
@@ -119,9 +119,9 @@ module _ (k : Clients) (c : Course) (m : Option ℕ) (l : Option (Option ℕ)) w
       m ≡ readers.member_after k.reader_member answer → l ≡ readers.listen_after k.asked k.listen answer →
       Turn now_reader (after_join_reader c answer).0
   join_reader_turn errands.Open (reads.Opened member version since) e s is at =
-      serves_on now_reader (record c { since = since }) errands.Open steps.JoinData e (record {
+      serves_on now_reader (forgotten (record c { since = since })) errands.Open steps.JoinData e (record {
         takes = (s.takes.0, some_same is refl);
-        listens = λ on. at ∙ s.listens on;
+        listens = λ on. absurd (let bad : false ≡ true = on in cc);
         few = tt;
       })
   join_reader_turn errands.Open (reads.MembersFull version) e s is at = tt
@@ -157,7 +157,7 @@ module _ (k : Clients) (c : Course) (m : Option ℕ) (l : Option (Option ℕ)) w
     late_turn upper all off = by (is_at upper 0)
       where
         none : Course
-        none = record c { bindings = []; intake = intakes.Nothing; synced = Some 0; listens = false }
+        none = forgotten c
 
         by : (b : Bool) → Turn now_reader (cond b (nothing_yet c) (ends c (clocks.Early c.since))).0
         by true = subst (λ (x : Option Errand). Turn now_reader (read_all none x).0) (sym e)

@@ -1,5 +1,6 @@
 -- Why an operator's command isn't begun, and what begins otherwise.
-use Rattle.std.specs.Prelude.{◌≡◌, ◌⊎◌, ◌^◌, Bool, true, false, if◌then◌else◌, nat_lt, Option, Some, None, Result, Ok, Err, List, length}
+use Rattle.std.specs.Prelude.{◌≡◌, ◌⊎◌, Bool, true, false, if◌then◌else◌, nat_lt, Option, Some, None, Result, Ok, Err, List, length}
+use Rattle.update_core.specs.Limits.{max_rows, max_weight}
 use Rattle.load_core.specs.declared.begin_faults.BeginFault.{BeginFault}
 use Rattle.load_core.specs.declared.begin_faults.BeginFault.TheVariants as faults
 use Rattle.remap_core.specs.declared.source_rows.SourceRow.{SourceRow}
@@ -25,8 +26,8 @@ or_fault None next = next
 -- the reasons that are a publish's own
 abbrev pub rows_fault : List SourceRow → Option BeginFault
 rows_fault rows =
-    if nat_lt 65536 (length rows) then Some (faults.TooMany (length rows))
-    else if nat_lt (2 ^ 62) (weight_of_rows rows) then Some faults.TooHeavy
+    if nat_lt max_rows (length rows) then Some (faults.TooMany (length rows))
+    else if nat_lt max_weight (weight_of_rows rows) then Some faults.TooHeavy
     else None
 
 abbrev pub publish_fault : Operator → List SourceRow → Option BeginFault

@@ -120,8 +120,12 @@ after_data_writer c other answer = strange c
 
 -- ---- after a command of the reader
 
+-- nothing is known
+abbrev pub forgotten : Course → Course
+forgotten c = record c { bindings = []; intake = intakes.Nothing; synced = Some 0; listens = false }
+
 abbrev pub after_join_reader : Course → ReadAnswer → Next
-after_join_reader c (reads.Opened member version since) = (record c { since = since; step = steps.JoinData }, polls.More)
+after_join_reader c (reads.Opened member version since) = goes (forgotten (record c { since = since })) steps.JoinData
 after_join_reader c (reads.MembersFull version) = ends_gone c (clocks.MembersFull version)
 after_join_reader c other = strange c
 
@@ -141,9 +145,7 @@ with_content c rows (Some t) = ends (record c { listens = false }) (clocks.Forei
 
 -- The upper isn't past the reader's since. What lies below it can't be read any more; where the upper is 0 there is nothing.
 abbrev pub nothing_yet : Course → Next
-nothing_yet c =
-    let none = record c { bindings = []; intake = intakes.Nothing; synced = Some 0; listens = false } in
-    read_all none none.errand
+nothing_yet c = read_all (forgotten c) c.errand
 
 abbrev pub with_late : Course → Option ℕ → Next
 with_late c upper = if is_at upper 0 then nothing_yet c else ends c (clocks.Early c.since)

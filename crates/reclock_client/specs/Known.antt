@@ -6,7 +6,7 @@ use Rattle.update_core.specs.declared.rows.Row.{Row}
 use Rattle.update_core.specs.declared.updates.Update.{Update}
 use Rattle.update_core.specs.Frontiers.{after, covers, frontier_cmp}
 use Rattle.update_core.specs.Updates.{OutOf, moved, slice_of, sum_of}
-use Rattle.state_core.specs.VersionReading.{most}
+use Rattle.update_core.specs.Limits.{most}
 use Rattle.history_core.specs.declared.read_answers.ReadAnswer.TheVariants as reads
 use Rattle.remap_core.specs.declared.source_rows.SourceRow.{SourceRow}
 use Rattle.remap_core.specs.Offsets.{offset, unset}
@@ -25,29 +25,37 @@ use Rattle.reclock_client.specs.Reading.{foreign_time, in_time, left}
 abbrev pub known : Course → List (ℕ × List ℕ)
 known c = with_rows c.bindings (left c.since c.intake)
 
+-- what is known of a remap shard: from which since on, the bindings, and up to which frontier
+pub record Knowledge : Type 0 where
+  pub since : ℕ
+  pub bindings : List (ℕ × List ℕ)
+  pub synced : Option ℕ
+
+abbrev pub knowledge : Course → Knowledge
+knowledge c = record { since = c.since; bindings = known c; synced = c.synced }
+
 -- these are the bindings of the updates from the reader's since on, up to the synced frontier, which is past it; up to there no
 -- partition's sum falls
-pub record IsKnown (us : List Update) (c : Course) : Type 0 where
-  pub bindings : IsBindingsOf us c.since c.synced (known c)
-  pub rises : NeverFalls (moved us c.since) c.synced
-  pub past : covers c.synced c.since ≡ true
+pub record IsRight (us : List Update) (k : Knowledge) : Type 0 where
+  pub bindings : IsBindingsOf us k.since k.synced k.bindings
+  pub rises : NeverFalls (moved us k.since) k.synced
+  pub past : covers k.synced k.since ≡ true
 
--- each byte is one
-abbrev pub AreBytes : List Update → Type 0
-AreBytes us = AllByRecursion (λ u. AllByRecursion (λ b. b < 256) u.datum) us
+abbrev pub IsKnown : List Update → Course → Type 0
+IsKnown us c = IsRight us (knowledge c)
 
 -- After a content at the reader's since that is the updates', and of which no row is foreign, what is known is right. No change
 -- comes between the since and the frontier after it.
 abbrev pub ContentIsKnown : Type 0
 ContentIsKnown = (us : List Update) (c : Course) (rows : List Row) → rows ≡ sum_of us c.since
     → ((q x : ℕ) → c.since < x → covers (after c.since) x ≡ true → change_at (moved us c.since) q x ≡ pos 0)
-    → AreBytes (rows_at c.since rows) → foreign_time unset (rows_at c.since rows) ≡ None
+    → foreign_time unset (rows_at c.since rows) ≡ None
     → IsKnown us (after_snapshot c (reads.Rows rows)).0
 
 -- After a step whose rows are the updates' from the synced frontier on, in their order, and of which none is foreign, it is so again.
 abbrev pub StepIsKnown : Type 0
 StepIsKnown = (us : List Update) (c : Course) (from to : Option ℕ) (rows : List Update) → IsKnown us c → c.intake ≡ intakes.Nothing
-    → is_gt (frontier_cmp c.synced to) ≡ false → rows ≡ slice_of us c.synced to → AreBytes rows
+    → is_gt (frontier_cmp c.synced to) ≡ false → rows ≡ slice_of us c.synced to
     → in_time (last_time c.bindings) rows ≡ true → foreign_time (reached c.bindings) rows ≡ None
     → IsKnown us (after_listen c (reads.Step from to rows)).0
 
@@ -63,14 +71,14 @@ MintFits = (w : Writer) (t u : ℕ) (had seen : List ℕ) → u ≤ t → w.toke
 
 -- what is known stays right where more is accepted past the synced frontier
 abbrev pub KnownStays : Type 0
-KnownStays = (us more : List Update) (c : Course) → IsKnown us c → OutOf c.synced more → IsKnown (us ++ more) c
+KnownStays = (us more : List Update) (k : Knowledge) → IsRight us k → OutOf k.synced more → IsRight (us ++ more) k
 
 -- Two operators who know one list of updates: whatever the sinces at which their readers joined, and whatever the frontiers up to which
 -- they have read, the collections of equal rows have equal sums at each time from both sinces on that both frontiers cover.
 abbrev pub CollectionsAgree : Type 0
-CollectionsAgree = (us : List Update) (a b : Course) (rows : List SourceRow) (t : ℕ) → IsKnown us a → IsKnown us b
+CollectionsAgree = (us : List Update) (a b : Knowledge) (rows : List SourceRow) (t : ℕ) → IsRight us a → IsRight us b
     → a.since ≤ t → b.since ≤ t → covers a.synced t ≡ true → covers b.synced t ≡ true
-    → sum_of (reclocked rows (known a) 0) t ≡ sum_of (reclocked rows (known b) 0) t
+    → sum_of (reclocked rows a.bindings 0) t ≡ sum_of (reclocked rows b.bindings 0) t
 
 -- where all that is accepted comes before the synced upper, the rows of a mint from there on make each partition's sum at the mint's time
 -- the greater of the sum before and the offset seen

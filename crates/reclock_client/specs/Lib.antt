@@ -9,5 +9,7 @@ pub mod Turns
 pub mod Operators
 pub mod Polling
 pub mod Known
+pub mod Knowing
+pub mod Damages
 pub mod Asking
 pub mod Proposals

@@ -1,9 +1,9 @@
 -- An operator: four inner machines of one client, and where it stands. Entries go newest first.
-use Rattle.std.specs.Prelude.{⊤, ◌≡◌, ◌≢◌, ◌⊎◌, ℕ, ◌≤◌, ◌^◌, Bool, true, false}
+use Rattle.std.specs.Prelude.{⊤, ◌≡◌, ◌≢◌, ◌⊎◌, ℕ, ◌≤◌, Bool, true, false}
 use Rattle.std.specs.Prelude.{if◌then◌else◌, is_some, ◌+◌, min, Option, Some, None, IfSome, IsSome, []}
 use Rattle.store_core.specs.declared.shards.ShardId.{ShardId}
 use Rattle.store_core.specs.Histories.{History}
-use Rattle.state_core.specs.VersionReading.{most}
+use Rattle.update_core.specs.Limits.{max_weight, most}
 use Rattle.state_core.specs.declared.transitions.Transition.TheVariants.{Init}
 use Rattle.history_core.specs.declared.asked.Asked.{Asked}
 use Rattle.history_core.specs.declared.asked.Asked.TheVariants as asks
@@ -118,7 +118,7 @@ IsChange _ = ⊥
 
 -- the rows of a publish weigh what a shard can
 abbrev pub IsLight : Option Errand → Type 0
-IsLight (Some (errands.Publish rows)) = weight_of_rows rows ≤ 2 ^ 62
+IsLight (Some (errands.Publish rows)) = weight_of_rows rows ≤ max_weight
 IsLight _ = ⊤
 
 -- the rows that are left raise partitions, and a publish isn't too heavy

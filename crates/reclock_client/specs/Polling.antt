@@ -5,7 +5,7 @@ use Rattle.update_core.specs.declared.updates.Update.{Update}
 use Rattle.update_core.specs.Frontiers.{after}
 use Rattle.store_core.specs.Histories.{History}
 use Rattle.state_core.specs.declared.transitions.Transition.TheVariants.{Init, Leave}
-use Rattle.state_core.specs.VersionReading.{most}
+use Rattle.update_core.specs.Limits.{most}
 use Rattle.history_core.specs.declared.asked.Asked.TheVariants as asks
 use Rattle.history_core.specs.declared.read_answers.ReadAnswer.{ReadAnswer}
 use Rattle.history_core.specs.declared.write_answers.WriteAnswer.{WriteAnswer}
@@ -37,7 +37,7 @@ use Rattle.reclock_client.specs.Asking.{InTurn}
 use Rattle.reclock_client.specs.Commands.{Next, after_data_writer, after_poll, after_reader, after_remap_writer, published_from}
 use Rattle.reclock_client.specs.Looking as looks
 use Rattle.reclock_client.specs.Minting.{mint_rows, slice_rows}
-use Rattle.reclock_client.specs.Operators.{IsSound}
+use Rattle.reclock_client.specs.Operators.{IsOpen, IsSound}
 use Rattle.reclock_client.specs.Parts.{part_of}
 use Rattle.reclock_client.specs.Reading.{Binds, left}
 use Rattle.reclock_client.specs.Starting.{StartsAppend}
@@ -159,6 +159,7 @@ pub record Polled (client : ℕ) (front front_now : Option History) (old new : O
   pub readies : Readies old ready
   pub sound : IsSound ready
   pub turn : InTurn ready
+  pub is_open : IsOpen ready (part_of ready.course.step)
   pub polled : PolledBy (part_of ready.course.step) client front front_now ready new poll
 
 -- ---- want of memory

@@ -11,7 +11,7 @@ use Rattle.reclock_client.specs.declared.intakes.Intake.TheVariants as intakes
 -- the datum is one byte
 abbrev pub is_one_byte : List ℕ → Bool
 is_one_byte [] = false
-is_one_byte (p ∷ []) = true
+is_one_byte (p ∷ []) = nat_lt p 256
 is_one_byte (p ∷ q ∷ ps) = false
 
 -- a datum with a difference raises one partition, from these offsets to at most 2^48

@@ -2,6 +2,8 @@
 ghost use Rattle.machine_core.specs.Machines.{Keeps};
 ghost use Rattle.reclock_client.specs.Looking.{machine};
 ghost use Rattle.reclock_client.specs.Known.{CollectionsAgree, ContentIsKnown, KnownStays, MintFits, MintRaises, MintRaisesSums, StepIsKnown};
+ghost use Rattle.reclock_client.specs.Damages.{ForeignCauses, NeverDamaged};
+ghost use Rattle.reclock_client.specs.Knowing.{KnowsOn, OperatorsAgree};
 ghost use Rattle.reclock_client.specs.Proposals.{DataAppends, DataCalls, RemapAppends, RemapCalls};
 
 /// After a content of the remap shard of which no row is foreign, the bindings are those of its updates.
@@ -19,7 +21,28 @@ pub fn known_stays()
     ensures { KnownStays }
 {}
 
-/// Two operators who know one remap shard: their collections of equal rows have equal sums at each time that both know.
+/// What an operator knows over a history it knows over the history with more entries, whoever makes them.
+pub fn knowing_goes_on()
+    ensures { KnowsOn }
+{}
+
+/// Two operators of one remap shard: over a lawful history of a collection, the collections of equal rows have equal sums at each time
+/// from both sinces on that both synced frontiers cover.
+pub fn operators_agree()
+    ensures { OperatorsAgree }
+{}
+
+/// Over a lawful history of a collection for both shards no poll of an operator is Damaged.
+pub fn never_damaged()
+    ensures { NeverDamaged }
+{}
+
+/// Over a lawful history of a collection for the remap shard a Foreign answer has its cause among the updates that the shard has accepted.
+pub fn foreign_causes()
+    ensures { ForeignCauses }
+{}
+
+/// Where two operators know one list of updates, it is the same: their collections of equal rows have equal sums at each time that both know.
 pub fn collections_agree()
     ensures { CollectionsAgree }
 {}

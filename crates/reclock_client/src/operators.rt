@@ -4,6 +4,7 @@ ghost use Rattle.store_core.specs.Histories.{History};
 ghost use Rattle.remap_core.specs.Reclocking.{reclocked, weight_of_rows};
 ghost use Rattle.reclock_client.specs.Asking.{InTurn};
 ghost use Rattle.reclock_client.specs.Beginning.{Begins, begun, begun_sync, fault, publish_fault};
+ghost use Rattle.reclock_client.specs.Knowing.{AreBindings, IsReclocked, Knows};
 ghost use Rattle.reclock_client.specs.Operators as operators;
 ghost use Rattle.reclock_client.specs.Operators.{Follows, IsLight, IsSound, calls_of};
 ghost use Rattle.reclock_client.specs.Turns.{HasAll, IsFew, Takes, clients, heard};
@@ -77,6 +78,7 @@ impl Operator {
         ensures sound { IsSound result }
         ensures turn { InTurn result }
         ensures follows { (client : ℕ) (front : Option History) → Follows client front result }
+        ensures knows { (front : Option History) → Knows front result }
     {
         let course = Course {
             since: 0,
@@ -109,9 +111,12 @@ impl Operator {
         self.course.errand.is_some()
     }
 
-    /// The bindings of the remap shard that are known.
+    /// The bindings of the remap shard that are known: where no command is open, those of the updates that it has accepted, from the since
+    /// on at which the reader joined, up to the synced frontier.
     pub fn bindings(&self) -> &Bindings
-        ensures { result.now ≡ self.now.course.bindings }
+        ensures bindings { result.now ≡ self.now.course.bindings }
+        ensures known { (front : Option History) → Knows front self.now → self.now.course.errand ≡ None →
+            AreBindings front self.now.remap self.now.course.since self.now.course.synced result.now }
     {
         &self.course.bindings
     }
@@ -119,7 +124,9 @@ impl Operator {
     /// The rows at the times that the known bindings give them, consolidated, by time and datum. It fails only for want of memory.
     pub fn collection(&self, alloc: Global, rows: &SourceList) -> Result<UpdateList, AllocError>
         requires { weight_of_rows rows.now ≤ 2 ^ 62 }
-        ensures { IfOk result (λ list. list ≡ reclocked rows.now self.now.course.bindings 0) }
+        ensures reclocked { IfOk result (λ list. list ≡ reclocked rows.now self.now.course.bindings 0) }
+        ensures known { (front : Option History) → Knows front self.now → self.now.course.errand ≡ None →
+            IfOk result (IsReclocked front self.now.remap self.now.course.since self.now.course.synced rows.now) }
     {
         reclocked(alloc, rows, &self.course.bindings, 0)
     }
@@ -168,6 +175,7 @@ impl Operator {
         ensures begun { self.new ≡ begun self.old errand step }
         ensures sound { IsSound self.new }
         ensures turn { InTurn self.new }
+        ensures knows { (front : Option History) → Knows front self.old → Knows front self.new }
     {
         self.course.errand = Some(errand);
         self.course.step = step;
@@ -184,6 +192,7 @@ impl Operator {
         ensures sound { IsSound self.new }
         ensures turn { InTurn self.new }
         ensures follows { (client : ℕ) (front : Option History) → Follows client front self.old → Follows client front self.new }
+        ensures knows { (front : Option History) → Knows front self.old → Knows front self.new }
     {
         if let Some(fault) = self.fault() {
             return Err(fault);
@@ -201,6 +210,7 @@ impl Operator {
         ensures sound { IsSound self.new }
         ensures turn { InTurn self.new }
         ensures follows { (client : ℕ) (front : Option History) → Follows client front self.old → Follows client front self.new }
+        ensures knows { (front : Option History) → Knows front self.old → Knows front self.new }
     {
         if let Some(fault) = self.fault() {
             return Err(fault);
@@ -241,6 +251,7 @@ impl Operator {
         ensures sound { IsSound self.new }
         ensures turn { InTurn self.new }
         ensures follows { (client : ℕ) (front : Option History) → Follows client front self.old → Follows client front self.new }
+        ensures knows { (front : Option History) → Knows front self.old → Knows front self.new }
     {
         if let Some(fault) = self.publish_fault(rows) {
             return Err(fault);
@@ -258,6 +269,7 @@ impl Operator {
         ensures sound { IsSound self.new }
         ensures turn { InTurn self.new }
         ensures follows { (client : ℕ) (front : Option History) → Follows client front self.old → Follows client front self.new }
+        ensures knows { (front : Option History) → Knows front self.old → Knows front self.new }
     {
         if let Some(fault) = self.fault() {
             return Err(fault);

@@ -3,6 +3,7 @@ ghost use Rattle.std.specs.Prelude.{◌≡◌, ◌<◌, ◌≤◌, Ok, IfOk, IsS
 ghost use Rattle.causes.specs.Causes.{Rose};
 ghost use Rattle.load_core.specs.declared.polls.Poll.TheVariants as polls;
 ghost use Rattle.reclock_client.specs.Asking.{InTurn};
+ghost use Rattle.reclock_client.specs.Knowing.{Counts, Knows};
 ghost use Rattle.reclock_client.specs.Operators.{Follows, IsOpen, IsSound};
 ghost use Rattle.reclock_client.specs.Parts.{part_of};
 ghost use Rattle.reclock_client.specs.Polling as polling;
@@ -47,6 +48,7 @@ impl Operator {
         ensures sound { IsSound self.new }
         ensures turn { InTurn self.new }
         ensures follows { Follows (P.client port.old) (P.front port.new) self.new }
+        ensures knows { Knows (P.front port.old) self.old → Counts self.new → Knows (P.front port.new) self.new }
         ensures busy { result ≡ Ok polls.Busy → P.misses port.old < P.misses port.new }
         ensures fault { result ≡ Ok polls.Fault → Rose (P.faults port.old) (P.faults port.new) }
         ensures faults { P.faults port.old ≤ P.faults port.new }
@@ -79,6 +81,7 @@ impl Operator {
         ensures sound { IsSound self.new }
         ensures turn { InTurn self.new }
         ensures follows { Follows (P.client port.old) (P.front port.new) self.new }
+        ensures knows { Knows (P.front port.old) self.old → Counts self.new → Knows (P.front port.new) self.new }
         ensures busy { result ≡ Ok polls.Busy → P.misses port.old < P.misses port.new }
         ensures fault { result ≡ Ok polls.Fault → Rose (P.faults port.old) (P.faults port.new) }
         ensures faults { P.faults port.old ≤ P.faults port.new }
@@ -111,6 +114,7 @@ impl Operator {
         ensures sound { IsSound self.new }
         ensures turn { InTurn self.new }
         ensures follows { Follows (P.client port.old) (P.front port.new) self.new }
+        ensures knows { Knows (P.front port.old) self.old → Counts self.new → Knows (P.front port.new) self.new }
         ensures busy { result ≡ Ok polls.Busy → P.misses port.old < P.misses port.new }
         ensures fault { result ≡ Ok polls.Fault → Rose (P.faults port.old) (P.faults port.new) }
         ensures faults { P.faults port.old ≤ P.faults port.new }
@@ -143,6 +147,7 @@ impl Operator {
         ensures sound { IsSound self.new }
         ensures turn { InTurn self.new }
         ensures follows { Follows (P.client port.old) (P.front port.new) self.new }
+        ensures knows { Knows (P.front port.old) self.old → Counts self.new → Knows (P.front port.new) self.new }
         ensures busy { result ≡ Ok polls.Busy → P.misses port.old < P.misses port.new }
         ensures fault { result ≡ Ok polls.Fault → Rose (P.faults port.old) (P.faults port.new) }
         ensures faults { P.faults port.old ≤ P.faults port.new }
@@ -174,6 +179,7 @@ impl Operator {
         ensures sound { IsSound self.new }
         ensures turn { InTurn self.new }
         ensures follows { Follows (P.client port.old) (P.front port.new) self.new }
+        ensures knows { Knows (P.front port.old) self.old → Counts self.new → Knows (P.front port.new) self.new }
         ensures busy { result ≡ Ok polls.Busy → P.misses port.old < P.misses port.new }
         ensures fault { result ≡ Ok polls.Fault → Rose (P.faults port.old) (P.faults port.new) }
         ensures faults { P.faults port.old ≤ P.faults port.new }
@@ -208,6 +214,8 @@ impl Operator {
         ensures sound { IsSound self.new }
         ensures turn { InTurn self.new }
         ensures follows { Follows (P.client port.old) (P.front port.new) self.new }
+        // What the operator knows stays no more than what its remap shard tells, until a command has made 2^64 - 1 calls.
+        ensures knows { Knows (P.front port.old) self.old → Counts self.new → Knows (P.front port.new) self.new }
         ensures busy { result ≡ Ok polls.Busy → P.misses port.old < P.misses port.new }
         ensures fault { result ≡ Ok polls.Fault → Rose (P.faults port.old) (P.faults port.new) }
         ensures faults { P.faults port.old ≤ P.faults port.new }

@@ -17,7 +17,18 @@ use std::alloc::Global;
 use update_core::{Frontier, RowList, UpdateList};
 
 impl Course {
-    fn after_join_reader(&mut self, answer: &ReadAnswer) -> Poll<ClockAnswer>
+    // Nothing is known.
+    fn forget(&mut self, alloc: Global)
+        ensures forgotten { self.new ≡ commands.forgotten self.old }
+        ensures course { Settles self.old self.new }
+    {
+        self.bindings = Bindings::new(alloc);
+        self.intake = Intake::Nothing;
+        self.synced = Frontier::at(0);
+        self.listens = false;
+    }
+
+    fn after_join_reader(&mut self, alloc: Global, answer: &ReadAnswer) -> Poll<ClockAnswer>
         ensures next { (self.new, result) ≡ commands.after_join_reader self.old answer.now }
         ensures course { Settles self.old self.new }
         ensures forth { IsForth result }
@@ -25,6 +36,7 @@ impl Course {
         match answer {
             ReadAnswer::Opened { since, .. } => {
                 self.since = *since;
+                self.forget(alloc);
                 self.go(Step::JoinData)
             }
             ReadAnswer::MembersFull { version } => {
@@ -60,10 +72,7 @@ impl Course {
         if !upper.is_at(0) {
             return self.end(ClockAnswer::Early { since });
         }
-        self.bindings = Bindings::new(alloc);
-        self.intake = Intake::Nothing;
-        self.synced = Frontier::at(0);
-        self.listens = false;
+        self.forget(alloc);
         self.read_all()
     }
 
@@ -138,7 +147,7 @@ impl Course {
         ensures forth { IsForth result }
     {
         match self.step {
-            Step::JoinReader => self.after_join_reader(&answer),
+            Step::JoinReader => self.after_join_reader(alloc, &answer),
             Step::Snapshot => self.after_snapshot(alloc, answer),
             Step::Listen | Step::Next => self.after_listen(answer),
             Step::LeaveReader => self.after_leave_reader(&answer),

@@ -23,12 +23,6 @@ use Rattle.remap_core.proofs.RemapLaws.{both_tied, sum_start, sum_step}
 use Rattle.remap_core.proofs.StepLaws.{Part, rows_extend, whole_from_part, rises_in_whole}
 
 -- ---- what a content has as updates at a time
-and_swap : (a b : Bool) → a && b ≡ b && a
-and_swap true true = refl
-and_swap true false = refl
-and_swap false true = refl
-and_swap false false = refl
-
 one_more : (b c : Bool) (z t : ℤ) → cond (b && c) z (pos 0) +ℤ cond c t (pos 0) ≡ cond c (cond b z (pos 0) +ℤ t) (pos 0)
 one_more true true z t = refl
 one_more false true z t = refl

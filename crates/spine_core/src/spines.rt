@@ -1,6 +1,7 @@
 // Spine: the batches of a collection, from time 0 on.
 ghost use Rattle.std.specs.Prelude.{◌≡◌, true, false, ◌⊎◌, ◌≤◌, ◌<◌, ◌+◌, ◌*◌, ◌^◌, [], ◌∷◌, ◌++◌, length, nat_lt, IfOk, IfErr, IfNone, IfSome, OnOk, OnErr, option_map, slice_set};
 ghost use Rattle.std.specs.List.{remove};
+ghost use Rattle.update_core.specs.Limits.{max_weight};
 ghost use Rattle.update_core.specs.Frontiers.{covers, is_at};
 ghost use Rattle.spine_core.specs.Settled.{weights_of, due_place, with_next, IsSettled};
 ghost use Rattle.spine_core.specs.Spines.{spine_upper, rows_of, IsSpine, HasNoPair, Pair, Replaced};
@@ -82,7 +83,7 @@ fn merge_at(batches: &mut Vec<Batch>, place: usize, merged: Batch)
 
 // The leftmost two that are due.
 fn first_due(batches: &[Batch]) -> Option<(usize, usize)>
-    requires { rows_of batches.now ≤ 2 ^ 62 }
+    requires { rows_of batches.now ≤ max_weight }
     ensures { result ≡ option_map with_next (due_place (weights_of batches.now)) }
 {
     for i in 1..batches.len() {
@@ -185,7 +186,7 @@ impl Spine {
     /// The leftmost two batches of which the first has less than twice the weight of the next, a batch's weight being
     /// its rows and one more. Where there are none, there are at most 64 batches.
     pub fn due(&self) -> Option<(usize, usize)>
-        requires { rows_of self.now ≤ 2 ^ 62 }
+        requires { rows_of self.now ≤ max_weight }
         ensures exact { result ≡ option_map with_next (due_place (weights_of self.now)) }
         ensures there { IfSome result (λ pair. (pair.1 ≡ pair.0 + 1) × (pair.1 < length self.now)) }
         ensures settled { IfNone result (IsSettled (weights_of self.now)) }

@@ -2,9 +2,6 @@ pub mod Lists
 pub mod States
 pub mod Steps
 pub mod Refusals
-pub mod Versions
-pub mod VersionReading
 pub mod Tokens
 pub mod Applying
-pub mod KeySets
-pub mod VersionDrafts
+pub mod Drafts

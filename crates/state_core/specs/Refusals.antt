@@ -1,6 +1,7 @@
 -- The refusals of a transition, in the order in which they are looked at.
 use Rattle.std.specs.Prelude.{is_some, ℕ, ◌+◌, ◌*◌, ◌^◌, suc, Bool, true, false, List, [], ◌∷◌, length, Option, Some, None, nat_lt, nat_le, ◌==◌, if◌then◌else◌, ◌&&◌, not}
 use Rattle.std.specs.List.{list_any}
+use Rattle.update_core.specs.Limits.{max_members, max_part_rows, max_rows, max_weight, most}
 use Rattle.update_core.specs.Frontiers.{covers, frontier_eq}
 use Rattle.store_core.specs.declared.shards.ShardId.{ShardId}
 use Rattle.store_core.specs.declared.part_keys.PartKey.{PartKey}
@@ -43,14 +44,14 @@ are_keys shard member token i (k ∷ ks) = is_key shard member token i k && are_
 
 -- whether a batch with this many rows has this many parts
 abbrev pub is_part_count : ℕ → ℕ → Bool
-is_part_count rows parts = nat_le rows (4096 * parts) && nat_lt (4096 * parts) (rows + 4096)
+is_part_count rows parts = nat_le rows (max_part_rows * parts) && nat_lt (max_part_rows * parts) (rows + max_part_rows)
 
 -- whether a transition keeps the rules of its shape
 abbrev pub is_shaped : ShardState → Transition → Bool
 is_shaped s Init = false
 is_shaped s (Join Writer now lease) = (now == 0) && (lease == 0)
 is_shaped s (Append member token expected new parts rows weight) =
-    covers new expected && (nat_le rows 65536 && (nat_le rows weight && (nat_le weight (2 ^ 62 + 1) && (are_keys s.shard member token 0 parts && is_part_count rows (length parts)))))
+    covers new expected && (nat_le rows max_rows && (nat_le rows weight && (nat_le weight (max_weight + 1) && (are_keys s.shard member token 0 parts && is_part_count rows (length parts)))))
 is_shaped s (Merge member token left right merged) =
     frontier_eq left.desc.upper (Some right.desc.lower) && ((merged.desc.lower == left.desc.lower) && (frontier_eq merged.desc.upper right.desc.upper
     && (nat_le left.desc.since merged.desc.since && (nat_le right.desc.since merged.desc.since && (nat_le merged.desc.since s.since && (nat_le merged.rows (left.rows + right.rows)
@@ -82,7 +83,7 @@ is_keeper k = not (is_writer k) && not (is_reader k)
 -- refusals 3 to 10, by kind of transition
 abbrev pub refusal_by_kind : ShardState → Transition → Option Refusal
 refusal_by_kind s Init = Some Shape
-refusal_by_kind s (Join kind now lease) = if nat_le 256 (length s.members) then Some (MembersFull (length s.members)) else None
+refusal_by_kind s (Join kind now lease) = if nat_le max_members (length s.members) then Some (MembersFull (length s.members)) else None
 refusal_by_kind s (Leave member) = of_member (member_of member s.members) any_kind (λ m. None)
 refusal_by_kind s (Renew member now) = of_member (member_of member s.members) (λ k. not (is_writer k)) (λ m. None)
 refusal_by_kind s (Advance member to) = of_member (member_of member s.members) is_reader (λ m. if nat_lt to m.since then Some (Back m.since) else None)
@@ -90,7 +91,7 @@ refusal_by_kind s (Expire now) = if list_any (is_out now) s.members then None el
 refusal_by_kind s (Append member token expected new parts rows weight) = of_member (member_of member s.members) is_writer (λ m.
     if nat_le token m.token then Some (TokenOld m.token)
     else if not (frontier_eq s.upper (Some expected)) then Some (UpperIs s.upper)
-    else if nat_lt (2 ^ 62) (s.weight + weight) then Some (Heavy s.weight) else None)
+    else if nat_lt max_weight (s.weight + weight) then Some (Heavy s.weight) else None)
 refusal_by_kind s (Merge member token left right merged) = of_member (member_of member s.members) is_keeper (λ m.
     if nat_le token m.token then Some (TokenOld m.token)
     else if follows left right s.batches then None else Some NotPresent)
@@ -98,4 +99,4 @@ refusal_by_kind s (Merge member token left right merged) = of_member (member_of 
 -- the first refusal that a transition meets
 abbrev pub refusal_of : ShardState → Transition → Option Refusal
 refusal_of s x =
-    if not (is_shaped s x) then Some Shape else if s.number == 0xffff_ffff_ffff_ffff then Some Spent else refusal_by_kind s x
+    if not (is_shaped s x) then Some Shape else if s.number == most then Some Spent else refusal_by_kind s x

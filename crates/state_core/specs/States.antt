@@ -1,6 +1,7 @@
 -- The state of a shard: its members and batches, and the rules that every state keeps.
 use Rattle.std.specs.Prelude.{◌≡◌, ℕ, ◌+◌, ◌*◌, ◌<◌, ◌≤◌, ◌^◌, min, max, Bool, true, false, ⊤, List, [], ◌∷◌, ◌++◌, length, Option, Some, None, if◌then◌else◌}
 use Rattle.std.specs.List.{AllByRecursion}
+use Rattle.update_core.specs.Limits.{max_members, max_part_rows, max_weight}
 use Rattle.spine_core.specs.Spines.{IsSpine, spine_upper, rows_of}
 use Rattle.spine_core.specs.declared.batches.Batch.{Batch}
 use Rattle.store_core.specs.declared.shards.ShardId.{ShardId}
@@ -72,7 +73,7 @@ Names s k = Among (λ q. q ≡ k) (keys_of s.batches)
 
 -- a batch with this many rows has these many parts: a part holds 4,096 rows, the last one the rest
 abbrev pub IsPartCount : ℕ → ℕ → Type 0
-IsPartCount rows parts = (rows ≤ 4096 * parts) × (4096 * parts < rows + 4096)
+IsPartCount rows parts = (rows ≤ max_part_rows * parts) × (max_part_rows * parts < rows + max_part_rows)
 
 -- the numbers of the members rise strictly
 abbrev pub MembersRise : List Member → Type 0
@@ -100,7 +101,7 @@ pub record KeyFits (shard : ShardId) (next_member : ℕ) (members : List Member)
 -- the rules of a state
 pub record IsState (s : ShardState) : Type 0 where
   -- at most 256 members, numbers rising below the next one
-  pub few : length s.members ≤ 256
+  pub few : length s.members ≤ max_members
   pub rising : MembersRise s.members
   pub known : AllByRecursion (λ m. m.number < s.next_member) s.members
   pub joined : s.next_member ≤ s.number
@@ -114,7 +115,7 @@ pub record IsState (s : ShardState) : Type 0 where
   pub upper_is : s.upper ≡ spine_upper s.batches
   pub sinces : AllByRecursion (λ b. b.desc.since ≤ s.since) s.batches
   pub rows : rows_of s.batches ≤ s.weight
-  pub light : s.weight ≤ 2 ^ 62
+  pub light : s.weight ≤ max_weight
   -- each batch has its parts; each key fits, and none stands twice
   pub parts : AllByRecursion (λ b. IsPartCount b.rows (length b.parts)) s.batches
   pub keys : AllByRecursion (KeyFits s.shard s.next_member s.members) (keys_of s.batches)

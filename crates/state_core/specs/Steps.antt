@@ -1,5 +1,6 @@
 -- The transitions of a state: what each asks of it, and what it makes of it.
 use Rattle.std.specs.Prelude.{⊤, ◌≡◌, ℕ, ◌+◌, ◌<◌, ◌≤◌, ◌^◌, suc, max, Bool, true, false, List, [], ◌∷◌, ◌++◌, length, Option, Some, None, nat_le, ◌==◌, if◌then◌else◌, ◌&&◌, not}
+use Rattle.update_core.specs.Limits.{max_members, max_rows, max_weight}
 use Rattle.state_core.specs.Lists.{Among}
 use Rattle.update_core.specs.Frontiers.{covers}
 use Rattle.store_core.specs.declared.shards.ShardId.{ShardId}
@@ -78,9 +79,9 @@ JoinShape Keeper now lease = ⊤
 -- the shape rules of an append
 pub record AppendShape (shard : ShardId) (member token expected : ℕ) (new : Option ℕ) (parts : List PartKey) (rows weight : ℕ) : Type 0 where
   pub forward : covers new expected ≡ true
-  pub few : rows ≤ 65536
+  pub few : rows ≤ max_rows
   pub dense : rows ≤ weight
-  pub light : weight ≤ 2 ^ 62 + 1
+  pub light : weight ≤ max_weight + 1
   pub keys : AreKeys shard member token 0 parts
   pub count : IsPartCount rows (length parts)
 
@@ -99,7 +100,7 @@ pub record MergeShape (s : ShardState) (member token : ℕ) (left right merged :
 -- a member joins
 pub record Joins (s : ShardState) (kind : Kind) (now lease : ℕ) (s2 : ShardState) : Type 0 where
   pub shape : JoinShape kind now lease
-  pub room : length s.members < 256
+  pub room : length s.members < max_members
   pub effect : s2 ≡ record s { number = s.number + 1; members = s.members ++ joining s kind now lease ∷ []; next_member = s.next_member + 1 }
 
 -- a member leaves
@@ -135,7 +136,7 @@ pub record Appends (s : ShardState) (member token expected : ℕ) (new : Option 
   -- a writer whose token is below the new one
   pub stands : Stands member (λ m. (is_writer m.kind ≡ true) × (m.token < token)) s.members
   pub fits : s.upper ≡ Some expected
-  pub light : s.weight + weight ≤ 2 ^ 62
+  pub light : s.weight + weight ≤ max_weight
   pub effect : s2 ≡ record s {
     number = s.number + 1;
     upper = new;

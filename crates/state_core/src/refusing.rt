@@ -1,5 +1,6 @@
 // Why a transition is refused, by looking at a state alone. Nothing here takes memory.
 ghost use Rattle.std.specs.Prelude.{◌≡◌, ◌+◌, ◌^◌, not, nat_le, nat_lt, Some, None, if◌then◌else◌};
+ghost use Rattle.update_core.specs.Limits.{max_members};
 ghost use Rattle.update_core.specs.Frontiers.{frontier_eq};
 ghost use Rattle.state_core.specs.Refusals.{any_kind, are_keys, follows, is_key, is_keeper, is_part_count, is_shaped};
 ghost use Rattle.state_core.specs.Refusals.{of_member, refusal_by_kind, refusal_of};
@@ -74,7 +75,7 @@ fn follows(batches: &[Batch], left: &Batch, right: &Batch) -> bool
 
 // A refusal where as many members stand as can stand.
 fn join_refusal(members: usize) -> Option<Refusal>
-    ensures { result ≡ (if nat_le 256 members then Some (MembersFull members) else None) }
+    ensures { result ≡ (if nat_le max_members members then Some (MembersFull members) else None) }
 {
     if members >= MOST_MEMBERS {
         Some(Refusal::MembersFull {
@@ -254,8 +255,8 @@ impl State {
         }
     }
 
-    // Whether the transition keeps the rules of its shape.
-    pub(crate) fn is_shaped(&self, step: &Transition) -> bool
+    /// Whether the transition keeps the rules of its shape.
+    pub fn is_shaped(&self, step: &Transition) -> bool
         ensures { result ≡ is_shaped self.now step.now }
     {
         match step {

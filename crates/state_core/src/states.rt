@@ -1,10 +1,12 @@
 // State: the state of a shard.
 ghost use Rattle.std.specs.Prelude.{◌≡◌, IfOk, option_copied};
 ghost use Rattle.std.specs.List.{list_any};
+ghost use Rattle.state_core.specs.Drafts.{drafted};
 ghost use Rattle.state_core.specs.Refusals.{member_of};
 ghost use Rattle.state_core.specs.States.{IsState, floor};
 ghost use Rattle.state_core.specs.Steps.{init, is_out};
 
+use crate::drafts::Draft;
 use crate::member_lists::MemberList;
 use crate::members::Member;
 use spine_core::Spine;
@@ -50,6 +52,23 @@ impl State {
             weight: 0,
             members: MemberList::new(alloc),
             spine: Spine::new(alloc),
+        }
+    }
+
+    /// The state with these fields, which keep the rules of states.
+    pub fn of(fields: Draft) -> State
+        requires { IsState (drafted fields) }
+        ensures { result ≡ drafted fields }
+    {
+        State {
+            shard: fields.shard,
+            number: fields.number,
+            next_member: fields.next_member,
+            since: fields.since,
+            upper: fields.upper,
+            weight: fields.weight,
+            members: fields.members,
+            spine: fields.spine,
         }
     }
 

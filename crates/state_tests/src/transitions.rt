@@ -5,6 +5,7 @@ use std::alloc::{AllocError, Global};
 use std::test::Fail;
 use store_core::{PartKey, ShardId};
 use update_core::Frontier;
+use version_codec::*;
 
 const SHARD: ShardId = ShardId(7);
 

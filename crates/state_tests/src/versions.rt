@@ -2,6 +2,7 @@ use state_core::*;
 use std::alloc::{AllocError, Global};
 use std::test::Fail;
 use store_core::ShardId;
+use version_codec::*;
 
 const SHARD: ShardId = ShardId(1);
 

@@ -5,7 +5,7 @@ use Rattle.store_core.specs.declared.shards.ShardId.{ShardId}
 use Rattle.store_core.specs.declared.entries.Entry.{Entry}
 use Rattle.store_core.specs.Stores.{Stored}
 use Rattle.store_core.specs.Histories.{History}
-use Rattle.state_core.specs.VersionReading.{most}
+use Rattle.update_core.specs.Limits.{most}
 use Rattle.machine_core.specs.Machines.{Words}
 use Rattle.driving.specs.declared.drive_faults.DriveFault.{DriveFault}
 use Rattle.driving.specs.declared.drive_faults.DriveFault.TheVariants as drives

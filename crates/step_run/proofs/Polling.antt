@@ -2,7 +2,7 @@
 use Rattle.std.proofs.Common.{◌≡◌, ℕ, ◌+◌, ◌<◌, ◌≤◌, inl, inr, Option, None, Ok, Err, refl, sym, subst, ◌∙◌, arith}
 use Rattle.store_core.specs.declared.shards.ShardId.{ShardId}
 use Rattle.store_core.specs.Histories.{History}
-use Rattle.state_core.specs.VersionReading.{most}
+use Rattle.update_core.specs.Limits.{most}
 use Rattle.machine_core.specs.Machines.{Words, shard_of}
 use Rattle.machine_core.specs.Polling.{FollowsWhere}
 use Rattle.driving.specs.Goings.{Goes}

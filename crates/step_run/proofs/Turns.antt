@@ -14,7 +14,7 @@ use Rattle.store_core.specs.declared.entries.Entry.{Entry}
 use Rattle.store_core.specs.Stores.{Stored}
 use Rattle.store_core.specs.Histories.{History, faults_of, reply, reply_by}
 use Rattle.store_core.specs.Newest.{mine_back, replay_back}
-use Rattle.state_core.specs.VersionReading.{most}
+use Rattle.update_core.specs.Limits.{most}
 use Rattle.history_core.specs.Discipline.{Allows}
 use Rattle.history_core.specs.Legal.{AtLast}
 use Rattle.history_core.specs.Placing.{placed, places, AtLastScan}
@@ -137,11 +137,6 @@ module _ {M A : Type 0} (W : Words M A) (client : ℕ) (first : M) where
 
   same_shard : (m : M) → W.kept m ≡ W.kept first → shard_of W m ≡ Own
   same_shard m same = ap (λ (k : W.Kept). W.shard k) same
-
-  -- it failed or not, by its reply
-  fails_by : (poll : Poll A) (failed : ℕ) (q : Call) (r : Reply) → ((s : Stored) (o : Outcome) → r ≡ reply_by s q o → faults_of o ≡ failed) →
-      W.Effect (W.kept first) q r poll → Did poll failed q r
-  fails_by poll failed q r fails effect = (effect, fails)
 
   answered_none : (q : Call) (r : Reply) → r ≢ replies.Failed → (s : Stored) (o : Outcome) → r ≡ reply_by s q o → faults_of o ≡ 0
   answered_none q r n s o is = no_fault s q o (λ bad. n (is ∙ bad))

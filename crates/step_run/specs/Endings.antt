@@ -3,7 +3,7 @@ use Rattle.std.specs.Prelude.{⊤, ◌≡◌, ℕ, Option, List}
 use Rattle.causes.specs.Causes.{Rose}
 use Rattle.store_core.specs.declared.shards.ShardId.{ShardId}
 use Rattle.store_core.specs.Histories.{History}
-use Rattle.state_core.specs.VersionReading.{most}
+use Rattle.update_core.specs.Limits.{most}
 use Rattle.feed_text.specs.Streams.{AtEnd, Left}
 use Rattle.driving.specs.Drives.{Scanned}
 use Rattle.driving.specs.Goings.{Goes}

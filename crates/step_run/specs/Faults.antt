@@ -3,7 +3,7 @@ use Rattle.std.specs.Prelude.{⊤, ◌≡◌, Result, Ok, Err, List}
 use Rattle.store_core.specs.declared.shards.ShardId.{ShardId}
 use Rattle.store_core.specs.declared.entries.Entry.{Entry}
 use Rattle.store_core.specs.Stores.{Stored}
-use Rattle.state_core.specs.VersionReading.{most}
+use Rattle.update_core.specs.Limits.{most}
 use Rattle.driving.specs.declared.drive_faults.DriveFault.{DriveFault}
 use Rattle.driving.specs.declared.drive_faults.DriveFault.TheVariants as drives
 use Rattle.driving.specs.Drives.{Scanned}

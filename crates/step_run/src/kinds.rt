@@ -1,6 +1,6 @@
 // Clients of each kind polled.
 ghost use Rattle.std.specs.Prelude.{◌≡◌, ◌≢◌, ◌+◌, ◌<◌, ◌≤◌, Err, OnOk};
-ghost use Rattle.state_core.specs.VersionReading.{most};
+ghost use Rattle.update_core.specs.Limits.{most};
 ghost use Rattle.driving.specs.Goings.{Goes, GrowsBy};
 ghost use Rattle.maint_client.specs.Expiring.{machine};
 ghost use Rattle.step_run.specs.Clients.{ClientFits, Fits};

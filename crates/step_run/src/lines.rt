@@ -3,7 +3,7 @@ ghost use Rattle.std.specs.Prelude.{◌≡◌, ◌≢◌, ◌++◌, ◌∷◌, [
 ghost use Rattle.std.specs.List.{AllByRecursion};
 ghost use Rattle.store_core.specs.declared.shards.ShardId.{ShardId as Shard};
 ghost use Rattle.store_core.specs.Histories.{History};
-ghost use Rattle.state_core.specs.VersionReading.{most};
+ghost use Rattle.update_core.specs.Limits.{most};
 ghost use Rattle.driving.specs.Goings.{Goes, GrowsBy};
 ghost use Rattle.driving.specs.StoreTurns.{StoreFailed};
 ghost use Rattle.step_run.specs.Begins.{FailsForMemory};

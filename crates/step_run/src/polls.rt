@@ -1,6 +1,6 @@
 // Clients polled.
 ghost use Rattle.std.specs.Prelude.{◌≡◌, ◌≢◌, ◌+◌, ◌<◌, ◌≤◌, Err, OnOk};
-ghost use Rattle.state_core.specs.VersionReading.{most};
+ghost use Rattle.update_core.specs.Limits.{most};
 ghost use Rattle.driving.specs.Goings.{Goes, GrowsBy};
 ghost use Rattle.step_run.specs.Clients.{Fits};
 ghost use Rattle.step_run.specs.Polls.{PollsTo, said_of};

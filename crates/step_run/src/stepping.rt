@@ -1,6 +1,6 @@
 // A client's open command polled so many times.
 ghost use Rattle.std.specs.Prelude.{◌≡◌, ◌≢◌, ◌+◌, ◌<◌, ◌≤◌, None, Err, IfOk, IfSome, OnOk};
-ghost use Rattle.state_core.specs.VersionReading.{most};
+ghost use Rattle.update_core.specs.Limits.{most};
 ghost use Rattle.machine_core.specs.Machines.{Ending, Keeps, shard_of};
 ghost use Rattle.machine_core.specs.Polling.{FollowsWhere};
 ghost use Rattle.driving.specs.Goings.{Goes, GrowsBy};

@@ -53,7 +53,24 @@ fn other_words_are_no_command(rt: HostRuntime) -> Result<(), WordsFault> {
         "reclock --operators=17",
         "reclock --operators=1 --data=00000000000000000000000000000002",
         "reclock --operators=1 --shard=00000000000000000000000000000009",
-        "ingest --writers 1 --compactors 0 --collectors 0",
+        "ingest",
+        "ingest --writers 1 --compactors 0",
+        "ingest --writers 0 --compactors 0 --collectors 0",
+        "ingest --writers 17 --compactors 0 --collectors 0",
+        "ingest --writers 1 --compactors 9 --collectors 0",
+        "ingest --writers 1 --compactors 0 --collectors 9",
+        "ingest --writers 1 --compactors 0 --collectors +1",
+        "ingest --writers 1 --writers 1 --compactors 0 --collectors 0",
+        "ingest --writers 1 --compactors 0 --collectors 0 --stop",
+        "ingest --writers 1 --compactors 0 --collectors 0 --stop=",
+        "ingest --writers 1 --compactors 0 --collectors 0 --stop 1:0",
+        "ingest --writers 1 --compactors 0 --collectors 0 --stop 0",
+        "ingest --writers 1 --compactors 0 --collectors 0 --stop 0:",
+        "ingest --writers 1 --compactors 0 --collectors 0 --stop 0:01",
+        "ingest --writers 1 --compactors 0 --collectors 0 --stop -0:1",
+        "ingest --writers 1 --compactors 0 --collectors 0 --stop 0:1,",
+        "ingest --writers 1 --compactors 0 --collectors 0 --stop 0:1,0:1",
+        "ingest --writers 1 --compactors 0 --collectors 0 --stop 0:18446744073709551616",
         "gen 0 1",
     ] {
         assert!(rt; is_no_command(rt.alloc(), line)?, "{line}");
@@ -117,6 +134,44 @@ fn options_come_in_any_order(rt: HostRuntime) -> Result<(), WordsFault> {
             ),
             "{line}"
         );
+    }
+    Ok(())
+}
+
+#[test]
+fn a_crew_has_a_size_and_stops(rt: HostRuntime) -> Result<(), WordsFault> {
+    for (line, size, stops) in [
+        (
+            "ingest --writers 1 --compactors 0 --collectors 0",
+            (1u32, 0u32, 0u32),
+            [None, None, None],
+        ),
+        (
+            "ingest --stop 0:0 --collectors=8 --compactors 8 --writers=16",
+            (16, 8, 8),
+            [Some(0u64), None, None],
+        ),
+        (
+            "ingest --writers 1 --compactors 1 --collectors 1 --stop 2:7,0:18446744073709551615",
+            (1, 1, 1),
+            [Some(18_446_744_073_709_551_615), None, Some(7)],
+        ),
+    ] {
+        match command_of(rt.alloc(), line)? {
+            CommandWords::Ingest {
+                shard,
+                writers,
+                compactors,
+                collectors,
+                stops: found,
+            } => {
+                assert_eq!(rt; shard, 1, "{line}");
+                assert_eq!(rt; (writers, compactors, collectors), size, "{line}");
+                let found = [found.stop_of(0), found.stop_of(1), found.stop_of(2)];
+                assert_eq!(rt; found, stops, "{line}");
+            }
+            _ => assert!(rt; false, "{line}"),
+        }
     }
     Ok(())
 }

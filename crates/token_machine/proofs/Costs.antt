@@ -18,7 +18,7 @@ use Rattle.store_core.specs.Ports.{OfOthers}
 use Rattle.store_core.specs.Newest.{mine_back, replay_back}
 use Rattle.state_core.specs.declared.transitions.Transition.{Transition}
 use Rattle.state_core.specs.States.{ShardState}
-use Rattle.state_core.specs.VersionReading.{most}
+use Rattle.update_core.specs.Limits.{most}
 use Rattle.state_core.proofs.ListLemmas.{bool_cases}
 use Rattle.history_core.specs.Costs.{commits_among, failed_calls, foreign_commits, Within}
 use Rattle.history_core.specs.Discipline.{LawfulBack}

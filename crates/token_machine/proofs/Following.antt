@@ -12,7 +12,7 @@ use Rattle.store_core.specs.Ports.{Answered, OfOthers}
 use Rattle.store_core.specs.Newest.{mine_back}
 use Rattle.state_core.specs.Lists.{Among}
 use Rattle.state_core.specs.Steps.{AreKeys}
-use Rattle.state_core.specs.VersionReading.{most}
+use Rattle.update_core.specs.Limits.{most}
 use Rattle.state_core.proofs.ListLemmas.{among_map}
 use Rattle.history_core.specs.Discipline.{IsCasUnder, Owns, StoredAs}
 use Rattle.history_core.specs.Placing.{Placed, places}

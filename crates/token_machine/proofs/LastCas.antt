@@ -17,7 +17,7 @@ use Rattle.store_core.specs.Newest.{replay_back}
 use Rattle.state_core.specs.declared.kinds.Kind.{Kind}
 use Rattle.state_core.specs.States.{ShardState}
 use Rattle.state_core.specs.Lists.{Among}
-use Rattle.state_core.specs.VersionReading.{most}
+use Rattle.update_core.specs.Limits.{most}
 use Rattle.state_core.proofs.Rising.{number_rises}
 use Rattle.history_core.specs.Placing.{Commits, Placed, placed, places}
 use Rattle.history_core.proofs.Gaining.{places_others}

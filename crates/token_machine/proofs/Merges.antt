@@ -12,7 +12,8 @@ use Rattle.state_core.specs.declared.kinds.Kind.{Kind}
 use Rattle.state_core.specs.declared.transitions.Transition.{Transition}
 use Rattle.state_core.specs.declared.transitions.Transition.TheVariants.{Merge}
 use Rattle.state_core.specs.Lists.{Among}
-use Rattle.state_core.specs.VersionReading.{most, version_in}
+use Rattle.version_codec.specs.Reading.{version_in}
+use Rattle.update_core.specs.Limits.{most}
 use Rattle.history_core.specs.Placing.{Commits, OnlyOne, Placed}
 use Rattle.history_core.specs.Upkeep.{MergedAs}
 use Rattle.load_core.specs.declared.tries.Tried.{Tried}

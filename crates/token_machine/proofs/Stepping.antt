@@ -18,7 +18,8 @@ use Rattle.state_core.specs.declared.transitions.Transition.{Transition}
 use Rattle.state_core.specs.Lists.{Among}
 use Rattle.state_core.specs.States.{ShardState}
 use Rattle.state_core.specs.Steps.{AreKeys, Spends}
-use Rattle.state_core.specs.VersionReading.{most, version_in}
+use Rattle.version_codec.specs.Reading.{version_in}
+use Rattle.update_core.specs.Limits.{most}
 use Rattle.state_core.proofs.ListLemmas.{bool_cases}
 use Rattle.history_core.specs.Discipline.{IsCasUnder, SpendsIn, StoredAs}
 use Rattle.history_core.specs.Members.{IsLeave, LeavesIn}

@@ -12,7 +12,7 @@ use Rattle.state_core.specs.declared.kinds.Kind.{Kind}
 use Rattle.state_core.specs.Lists.{Among}
 use Rattle.state_core.specs.States.{ShardState}
 use Rattle.state_core.specs.Steps.{Stands}
-use Rattle.state_core.specs.VersionReading.{most}
+use Rattle.update_core.specs.Limits.{most}
 use Rattle.history_core.specs.Discipline.{IsCasUnder}
 use Rattle.history_core.specs.Members.{JoinedAs}
 use Rattle.history_core.specs.Placing.{Commits, Placed, places}

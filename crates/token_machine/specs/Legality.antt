@@ -16,7 +16,8 @@ use Rattle.state_core.specs.declared.transitions.Transition.{Transition}
 use Rattle.state_core.specs.Lists.{Among}
 use Rattle.state_core.specs.States.{ShardState}
 use Rattle.state_core.specs.Steps.{AreKeys, Spends}
-use Rattle.state_core.specs.VersionReading.{most, version_in}
+use Rattle.version_codec.specs.Reading.{version_in}
+use Rattle.update_core.specs.Limits.{most}
 use Rattle.history_core.specs.Discipline.{LawfulBack, StoredAs}
 use Rattle.history_core.specs.Placing.{Commits, OnlyOne, Placed, placed, places}
 use Rattle.history_core.specs.Stands.{StandsFor}

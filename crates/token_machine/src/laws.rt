@@ -14,7 +14,7 @@ ghost use Rattle.state_core.specs.declared.transitions.Transition.{Transition};
 ghost use Rattle.state_core.specs.declared.transitions.Transition.TheVariants.{Merge};
 ghost use Rattle.state_core.specs.Lists.{Among};
 ghost use Rattle.state_core.specs.Steps.{AreKeys};
-ghost use Rattle.state_core.specs.VersionReading.{most};
+ghost use Rattle.update_core.specs.Limits.{most};
 ghost use Rattle.history_core.specs.Discipline.{Allows, Holds, Owns};
 ghost use Rattle.history_core.specs.Placing.{places};
 ghost use Rattle.history_core.specs.Upkeep.{MergedAs};

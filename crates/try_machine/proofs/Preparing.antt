@@ -8,7 +8,7 @@ use Rattle.store_core.specs.Stores.{Stored}
 use Rattle.store_core.specs.Ports.{Answered, OfOthers, answered}
 use Rattle.store_core.specs.Newest.{mine_back}
 use Rattle.state_core.specs.States.{ShardState}
-use Rattle.state_core.specs.VersionReading.{most}
+use Rattle.update_core.specs.Limits.{most}
 use Rattle.history_core.proofs.Gaining.{mine_gained, mine_others}
 use Rattle.load_core.specs.declared.tryings.Trying.{Trying}
 use Rattle.load_core.specs.Costing.{CostKept}

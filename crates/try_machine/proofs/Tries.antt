@@ -8,8 +8,9 @@ use Rattle.store_core.specs.declared.replies.Reply.TheVariants as replies
 use Rattle.store_core.specs.declared.versions.Version.{Version}
 use Rattle.store_core.specs.Stores.{Log}
 use Rattle.state_core.specs.States.{ShardState}
-use Rattle.state_core.specs.VersionReading.{most, version_in}
-use Rattle.state_core.proofs.VersionFacts.{version_in_shard}
+use Rattle.version_codec.specs.Reading.{version_in}
+use Rattle.update_core.specs.Limits.{most}
+use Rattle.version_codec.proofs.Facts.{version_in_shard}
 use Rattle.load_core.specs.declared.nexts.Next.{Next}
 use Rattle.load_core.specs.declared.nexts.Next.TheVariants as nexts
 use Rattle.load_core.specs.declared.readies.Ready.{Ready}

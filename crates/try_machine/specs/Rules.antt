@@ -9,7 +9,7 @@ use Rattle.store_core.specs.Newest.{mine_back, replay_back}
 use Rattle.state_core.specs.declared.refusals.Refusal.{Refusal}
 use Rattle.state_core.specs.declared.transitions.Transition.{Transition}
 use Rattle.state_core.specs.States.{ShardState}
-use Rattle.state_core.specs.VersionReading.{most}
+use Rattle.update_core.specs.Limits.{most}
 use Rattle.history_core.specs.Discipline.{Holds}
 use Rattle.history_core.specs.Legal.{AtLast}
 use Rattle.history_core.specs.Placing.{AtLastScan, IsAnsweredScan, Placed, placed}

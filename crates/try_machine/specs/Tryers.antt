@@ -10,7 +10,8 @@ use Rattle.store_core.specs.Stores.{Stored}
 use Rattle.store_core.specs.Newest.{mine_back}
 use Rattle.state_core.specs.declared.transitions.Transition.{Transition}
 use Rattle.state_core.specs.States.{ShardState}
-use Rattle.state_core.specs.VersionReading.{most}
+use Rattle.update_core.specs.Limits.{most}
+use Rattle.history_core.specs.Costs.{change_base}
 use Rattle.history_core.specs.Placing.{places}
 use Rattle.load_core.specs.declared.polls.Poll.{Poll}
 use Rattle.load_core.specs.declared.polls.Poll.TheVariants as polls
@@ -156,7 +157,7 @@ words Q = record {
   Follows = Follows Q;
   Spares = λ t call. ⊤;
   Legal = λ client k calls answer start es list. IfSome k.fixed (λ f. Q.Legal f k.shard start (places client calls es) answer);
-  least = 3;
+  least = change_base;
   CostAt = λ base client t start es list. t.trying.calls < most → CostKept base client t.trying start es;
   CostOver = λ base client old new start es list. new.trying.calls < most → CostEnded base client new.trying start es;
 }

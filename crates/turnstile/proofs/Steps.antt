@@ -29,10 +29,6 @@ abbrev pub value_or : {V : Type 0} → V → Option V → V
 value_or d None = d
 value_or d (Some y) = y
 
-abbrev pub carried_value : {V : Type 0} → V → List (ℕ × Option V) → V
-carried_value d [] = d
-carried_value d (x ∷ xs) = value_or d x.1
-
 module _ {V B I : Type 0} (told : V → Option (B × List I)) (client : I → ℕ) (start : Option (B × List I)) where
   abbrev View' : Type 0
   View' = View B I

@@ -1,5 +1,6 @@
 -- The plain collection: what a collection is to those who use it.
 use Rattle.std.specs.Prelude.{ℕ, ◌+◌, ◌^◌, Option, Some, None, List, [], ◌++◌, ◌&&◌, Bool, true, false, nat_lt, nat_le, if◌then◌else◌}
+use Rattle.update_core.specs.Limits.{max_weight}
 use Rattle.update_core.specs.declared.rows.Row.{Row}
 use Rattle.update_core.specs.declared.updates.Update.{Update}
 use Rattle.update_core.specs.Frontiers.{covers, is_at, is_from}
@@ -24,7 +25,7 @@ pub data AppendAnswer : Type 0 where
 
 -- A mismatch exactly where the upper isn't at the append's lower time; else heavy exactly where the weight would pass 2^62.
 abbrev pub append_answer : Collection → ℕ → ℕ → AppendAnswer
-append_answer c lower weight = if is_at c.upper lower then (if nat_le (c.weight + weight) (2 ^ 62) then accepted else heavy c.weight) else mismatch c.upper
+append_answer c lower weight = if is_at c.upper lower then (if nat_le (c.weight + weight) max_weight then accepted else heavy c.weight) else mismatch c.upper
 
 -- the collection with an accepted append: its updates are followed by the consolidated rows
 abbrev pub extended : Collection → List Update → Option ℕ → ℕ → Collection

@@ -1,3 +1,4 @@
+pub mod Limits
 pub mod Frontiers
 pub mod Totals
 pub mod Weights

@@ -4,6 +4,7 @@ ghost use Rattle.std.specs.Int.RustNames.{unsigned_abs};
 ghost use Rattle.std.specs.List.Sorted.{IsStrictlySortedBy, IsPermutation};
 ghost use Rattle.std.specs.Map.{keys_of};
 ghost use Rattle.std.specs.Ordering.{eq_by_cmp};
+ghost use Rattle.update_core.specs.Limits.{max_weight};
 ghost use Rattle.update_core.specs.Totals.{total, IsConsolidation};
 ghost use Rattle.update_core.specs.Updates.{moment_cmp, moment_entry, weight_of};
 ghost use Rattle.update_core.specs.Weights.{Ascending};
@@ -22,7 +23,7 @@ fn cmp_moments(a: &Update, b: &Update) -> Ordering
 // Whether a later update has the datum and time of one that is kept, which then takes its difference.
 fn absorbs(kept: &mut Update, later: &Update) -> bool
     ensures same { result ≡ eq_by_cmp moment_cmp (later.now.datum, later.now.time) (kept.old.datum, kept.old.time) }
-    ensures sum { result ≡ true → unsigned_abs kept.old.diff + unsigned_abs later.now.diff ≤ 2 ^ 62
+    ensures sum { result ≡ true → unsigned_abs kept.old.diff + unsigned_abs later.now.diff ≤ max_weight
         → kept.new ≡ record kept.old { diff = kept.old.diff +ℤ later.now.diff } }
     ensures apart { result ≡ false → kept.new ≡ kept.old }
 {
@@ -45,7 +46,7 @@ fn sort(rows: &mut Vec<Update>) -> Result<(), AllocError>
 // Joins the updates at each datum and time, where they are in order.
 fn join(rows: &mut Vec<Update>)
     requires ascending { Ascending moment_cmp (keys_of (map moment_entry rows.old.items)) }
-    requires room { weight_of rows.old.items ≤ 2 ^ 62 }
+    requires room { weight_of rows.old.items ≤ max_weight }
     ensures rising { IsStrictlySortedBy moment_cmp (keys_of (map moment_entry rows.new.items)) }
     ensures same { (m : List ℕ × ℕ) → total moment_cmp (map moment_entry rows.new.items) m
         ≡ total moment_cmp (map moment_entry rows.old.items) m }
@@ -63,7 +64,7 @@ fn drop_zeros(rows: &mut Vec<Update>)
 
 // The consolidation of the updates, in their memory.
 pub fn consolidate_in_place(rows: &mut Vec<Update>) -> Result<(), AllocError>
-    requires { weight_of rows.old.items ≤ 2 ^ 62 }
+    requires { weight_of rows.old.items ≤ max_weight }
     ensures { OnOk result (IsConsolidation moment_cmp (map moment_entry rows.old.items) (map moment_entry rows.new.items)) }
 {
     sort(rows)?;

@@ -1,6 +1,7 @@
 // Sums by key in an ordered map, whatever the keys are.
 ghost use Rattle.std.specs.Prelude.{◌≡◌, ◌+◌, ◌≤◌, ◌^◌, OnOk};
 ghost use Rattle.std.specs.Int.RustNames.{unsigned_abs};
+ghost use Rattle.update_core.specs.Limits.{max_weight};
 ghost use Rattle.update_core.specs.Totals.{counted};
 ghost use Rattle.update_core.specs.Weights.{weight};
 
@@ -13,7 +14,7 @@ pub fn count<K: Ord + Drop>(
     key: K,
     diff: i64,
 ) -> Result<(), AllocError>
-    requires room { weight sums.old.entries + unsigned_abs diff ≤ 2 ^ 62 }
+    requires room { weight sums.old.entries + unsigned_abs diff ≤ max_weight }
     ensures { OnOk result (sums.new.entries ≡ counted K.cmp key diff sums.old.entries) }
 {
     let sum = sums.entry(key)?.or_insert(0);

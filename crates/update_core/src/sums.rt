@@ -2,6 +2,7 @@
 ghost use Rattle.std.specs.Prelude.{◌≡◌, ◌≤◌, ◌^◌, ℕ, List, IfOk, map, ◌&&◌};
 ghost use Rattle.std.specs.Cmp.Lexicographic.{slice_cmp};
 ghost use Rattle.std.specs.Ordering.{nat_cmp};
+ghost use Rattle.update_core.specs.Limits.{max_weight};
 ghost use Rattle.update_core.specs.Totals.{total, IsConsolidation};
 ghost use Rattle.update_core.specs.Frontiers.{covers, is_from};
 ghost use Rattle.update_core.specs.Updates.{seen_datum, seen_time, weight_of, IsCons, IsSum, IsSlice, moved, cons, sum_of, datum_entry, row_entry, until, time_entry, between, slice_of};
@@ -22,7 +23,7 @@ use std::collections::{BTreeMap, VecDeque};
 /// It takes n log n steps for n updates, in their own memory but for the sort's, and fails only for want of memory.
 /// `weight` tests what it requires.
 pub fn consolidate(_alloc: Global, rows: UpdateList) -> Result<UpdateList, AllocError>
-    requires { weight_of rows ≤ 2 ^ 62 }
+    requires { weight_of rows ≤ max_weight }
     ensures sums { IfOk result (λ out. IsCons rows out) }
     ensures exact { IfOk result (λ out. out ≡ cons rows) }
     ensures weight { IfOk result (λ out. weight_of out ≤ weight_of rows) }
@@ -38,7 +39,7 @@ fn sums_until<'a>(
     rows: &'a [Update],
     t: u64,
 ) -> Result<BTreeMap<&'a Datum, i64>, AllocError>
-    requires { weight_of rows.now ≤ 2 ^ 62 }
+    requires { weight_of rows.now ≤ max_weight }
     ensures { IfOk result (λ sums. (k : List ℕ) → total (slice_cmp nat_cmp) (map seen_datum sums.entries) k
         ≡ total (slice_cmp nat_cmp) (map datum_entry (until t rows.now)) k) }
 {
@@ -68,7 +69,7 @@ fn rows_of(alloc: Global, sums: BTreeMap<&Datum, i64>) -> Result<RowList, AllocE
 /// For each datum the sum of the differences up to a time, zeros left out, by datum.
 /// It takes n log m steps for n updates of m data, and fails only for want of memory. `weight` tests what it requires.
 pub fn sum_at(alloc: Global, rows: &UpdateList, t: u64) -> Result<RowList, AllocError>
-    requires { weight_of rows.now ≤ 2 ^ 62 }
+    requires { weight_of rows.now ≤ max_weight }
     ensures sums { IfOk result (λ out. IsSum rows.now t out) }
     ensures exact { IfOk result (λ out. out ≡ sum_of rows.now t) }
 {
@@ -122,7 +123,7 @@ pub fn slice_between(
     from: Frontier,
     to: Frontier,
 ) -> Result<UpdateList, AllocError>
-    requires { weight_of rows.now ≤ 2 ^ 62 }
+    requires { weight_of rows.now ≤ max_weight }
     ensures sums { IfOk result (λ out. IsSlice rows.now from to out) }
     ensures exact { IfOk result (λ out. out ≡ slice_of rows.now from to) }
 {

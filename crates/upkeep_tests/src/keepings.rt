@@ -1,9 +1,9 @@
 // What stays in a store, and what compaction costs.
 use crate::executions::{SHARD, execute, fresh, run_feed};
-use state_core::decode_version;
 use std::alloc::{AllocError, Global};
 use std::test::Fail;
 use store_core::{Call, Entry, MemStore, PartKey, Reply, Store};
+use version_codec::decode_version;
 
 const LETTERS: [&str; 8] = ["A", "B", "C", "D", "E", "F", "G", "H"];
 

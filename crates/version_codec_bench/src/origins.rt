@@ -1,9 +1,9 @@
 // Versions to change.
 use crate::answers::Answer;
 use anyhow::{Context, Result, bail};
-use state_core::{VersionFault, decode_version, encode_version};
 use std::alloc::Global;
 use store_core::ShardId;
+use version_codec::{VersionFault, decode_version, encode_version};
 
 /// A version to change: the shard and the number under which it lies, and its bytes.
 #[derive(Drop)]

@@ -1,14 +1,14 @@
 -- Words that open the reading of versions and of parts: to name one on an `unfolding` line lets that reading compute.
 use Rattle.std.specs.Prelude.{⊤}
-use Rattle.state_core.specs.Versions.{number_bytes}
-use Rattle.state_core.specs.VersionReading.{number_at, magic_at, form_at, limited_at, frontier_at, time_at, kind_at, below_at, one_at}
-use Rattle.state_core.specs.VersionReading.{two_at, join_at}
-use Rattle.state_core.specs.VersionReading.{head_at, all_members_at, member_count_at, members_at, member_at, joined_at}
-use Rattle.state_core.specs.VersionReading.{all_batches_at, batch_count_at, batches_at, batch_at, lower_at, upper_at}
-use Rattle.state_core.specs.VersionReading.{part_count_at, keys_at, key_at, index_at}
-use Rattle.state_core.specs.VersionReading.{step_at, whole_step_at, fields_at, append_at, merge_at, counted_keys_at}
-use Rattle.state_core.specs.VersionReading.{step_keys_at, step_key_at, step_batch_at}
-use Rattle.state_core.specs.VersionReading.{state_at, read_version, version_in}
+use Rattle.version_codec.specs.Versions.{number_bytes}
+use Rattle.version_codec.specs.Reading.{number_at, magic_at, form_at, limited_at, frontier_at, time_at, kind_at, below_at, one_at}
+use Rattle.version_codec.specs.Reading.{two_at, join_at}
+use Rattle.version_codec.specs.Reading.{head_at, all_members_at, member_count_at, members_at, member_at, joined_at}
+use Rattle.version_codec.specs.Reading.{all_batches_at, batch_count_at, batches_at, batch_at, lower_at, upper_at}
+use Rattle.version_codec.specs.Reading.{part_count_at, keys_at, key_at, index_at}
+use Rattle.version_codec.specs.Reading.{step_at, whole_step_at, fields_at, append_at, merge_at, counted_keys_at}
+use Rattle.version_codec.specs.Reading.{step_keys_at, step_key_at, step_batch_at}
+use Rattle.version_codec.specs.Reading.{state_at, read_version, version_in}
 use Rattle.part_codec.specs.Reading.{magic_at as part_magic_at, form_at as part_form_at, count_at, length_at, datum_at, bits_at}
 use Rattle.part_codec.specs.Reading.{fields_at as row_fields_at, row_at, rows_at, all_of}
 use Rattle.history_core.specs.Readings.{rows_in}

@@ -8,7 +8,7 @@ use Rattle.store_core.specs.declared.calls.Call.TheVariants.{Cas}
 use Rattle.state_core.specs.declared.transitions.Transition.{Transition}
 use Rattle.state_core.specs.States.{ShardState}
 use Rattle.state_core.specs.Steps.{Applies, acts_for}
-use Rattle.state_core.specs.VersionReading.{version_in}
+use Rattle.version_codec.specs.Reading.{version_in}
 use Rattle.history_core.specs.Discipline.{JoinsAs, GotAs, StoredAs, CasAllowed, MergeHolds, OwnsSome, Holds, Lawful, ShowsState}
 use Rattle.worked_histories.specs.Worked.{the_shard, key, early_batch, late_batch, early_row, late_row, early_part, late_part}
 use Rattle.worked_histories.specs.Worked.{state2, state3, state6, state7, step2, step3, step4, step6, step7, version2, version3}

@@ -1,6 +1,6 @@
 -- What the bytes of broken histories hold, by computation.
 use Rattle.std.proofs.Common.{◌≡◌, Some, None, [], ◌∷◌, refl}
-use Rattle.state_core.specs.VersionReading.{version_in}
+use Rattle.version_codec.specs.Reading.{version_in}
 use Rattle.history_core.specs.Readings.{rows_in}
 use Rattle.worked_histories.specs.Worked.{the_shard, step4, version1}
 use Rattle.worked_histories.specs.WorkedBroken.{forgetful_state, forgetful_version, one_row_to, one_row_state, short_version}

@@ -5,7 +5,7 @@ use Rattle.store_core.specs.declared.calls.Call.TheVariants.{Cas, Set}
 use Rattle.state_core.specs.declared.transitions.Transition.{Transition}
 use Rattle.state_core.specs.declared.transitions.Transition.TheVariants.{Init}
 use Rattle.state_core.specs.States.{ShardState}
-use Rattle.state_core.specs.VersionReading.{version_in}
+use Rattle.version_codec.specs.Reading.{version_in}
 use Rattle.history_core.specs.Readings.{rows_in}
 use Rattle.history_core.specs.Discipline.{SpendsIn, Lawful}
 use Rattle.worked_histories.specs.Worked.{the_shard, key, early_row, late_row, early_part, late_part, state0, version1, version4}

@@ -14,7 +14,7 @@ use Rattle.store_core.specs.Histories.{store_after}
 use Rattle.state_core.specs.declared.transitions.Transition.{Transition}
 use Rattle.state_core.specs.States.{ShardState, floor, Names, KeyFits}
 use Rattle.state_core.specs.Steps.{Takes}
-use Rattle.state_core.specs.VersionReading.{version_in}
+use Rattle.version_codec.specs.Reading.{version_in}
 use Rattle.spine_core.specs.Contents.{IsBatchOf}
 use Rattle.std.proofs.lemmas.List.{append-nil}
 use Rattle.history_core.specs.Readings.{rows_in}

@@ -8,7 +8,7 @@ use Rattle.update_core.proofs.UpdateLaws.{cons_is}
 use Rattle.part_codec.specs.Parts.{Rising}
 use Rattle.state_core.specs.States.{IsState}
 use Rattle.state_core.specs.Steps.{Applies}
-use Rattle.state_core.specs.VersionReading.{version_in}
+use Rattle.version_codec.specs.Reading.{version_in}
 use Rattle.state_core.specs.declared.transitions.Transition.TheVariants.{Init}
 use Rattle.history_core.specs.Readings.{rows_in}
 use Rattle.history_core.specs.Discipline.{OwnLawful, Lawful}

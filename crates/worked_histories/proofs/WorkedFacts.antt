@@ -4,7 +4,7 @@ use Rattle.store_core.specs.declared.part_keys.PartKey.{PartKey}
 use Rattle.state_core.specs.declared.transitions.Transition.{Transition}
 use Rattle.state_core.specs.States.{ShardState}
 use Rattle.state_core.specs.Steps.{Spends, Takes}
-use Rattle.state_core.specs.VersionReading.{version_in}
+use Rattle.version_codec.specs.Reading.{version_in}
 use Rattle.history_core.specs.Discipline.{JoinsAs, SpendsIn, TakesIn}
 use Rattle.worked_histories.specs.Worked.{the_shard, key, version1, version2, version3, version6}
 use Rattle.worked_histories.proofs.WorkedVersions.{reads1, reads2, reads3, reads6}

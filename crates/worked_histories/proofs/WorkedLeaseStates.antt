@@ -2,7 +2,7 @@
 use Rattle.std.proofs.Common.{◌≡◌, Some, inl, inr, refl, arith}
 use Rattle.state_core.specs.States.{IsState}
 use Rattle.state_core.specs.Steps.{Applies}
-use Rattle.state_core.specs.VersionReading.{version_in}
+use Rattle.version_codec.specs.Reading.{version_in}
 use Rattle.worked_histories.specs.Worked.{the_shard, state6}
 use Rattle.worked_histories.specs.WorkedLeases.{renewed_state, renewing, renewed_version, kept_state, keeping, kept_version}
 use Rattle.worked_histories.specs.WorkedLeases.{expired_state, expiring, expired_version}

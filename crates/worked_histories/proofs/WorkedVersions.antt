@@ -1,6 +1,6 @@
 -- What the bytes of the worked versions hold, by computation.
 use Rattle.std.proofs.Common.{◌≡◌, Some, refl}
-use Rattle.state_core.specs.VersionReading.{version_in}
+use Rattle.version_codec.specs.Reading.{version_in}
 use Rattle.state_core.specs.declared.transitions.Transition.TheVariants.{Init}
 use Rattle.worked_histories.specs.Worked.{the_shard, state0, state1, state2, state3, state4, state5, state6, state7, state8}
 use Rattle.worked_histories.specs.Worked.{step1, step2, step3, step4, step5, step6, step7, step8}

@@ -12,7 +12,7 @@ use Rattle.state_core.specs.declared.transitions.Transition.{Transition}
 use Rattle.state_core.specs.declared.transitions.Transition.TheVariants.{Init, Join, Leave, Renew, Append, Merge}
 use Rattle.state_core.specs.States.{ShardState}
 use Rattle.state_core.specs.Steps.{init}
-use Rattle.state_core.specs.Versions.{version_spelling}
+use Rattle.version_codec.specs.Versions.{version_spelling}
 
 -- the shard
 abbrev pub the_shard : ShardId

@@ -8,7 +8,7 @@ use Rattle.part_codec.specs.Parts.{spelling}
 use Rattle.state_core.specs.declared.transitions.Transition.{Transition}
 use Rattle.state_core.specs.declared.transitions.Transition.TheVariants.{Append, Merge}
 use Rattle.state_core.specs.States.{ShardState}
-use Rattle.state_core.specs.Versions.{version_spelling}
+use Rattle.version_codec.specs.Versions.{version_spelling}
 use Rattle.worked_histories.specs.Worked.{the_shard, key, writer, keeper, reader, batch, early_batch, late_batch, early_row}
 use Rattle.worked_histories.specs.Worked.{late_row, early_part, late_part, merged_part, state4, state5, step4, version1}
 use Rattle.worked_histories.specs.Worked.{version2, version4, version7}

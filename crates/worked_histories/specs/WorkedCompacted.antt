@@ -11,7 +11,7 @@ use Rattle.state_core.specs.declared.members.Member.{Member}
 use Rattle.state_core.specs.declared.transitions.Transition.{Transition}
 use Rattle.state_core.specs.declared.transitions.Transition.TheVariants.{Advance, Merge}
 use Rattle.state_core.specs.States.{ShardState}
-use Rattle.state_core.specs.Versions.{version_spelling}
+use Rattle.version_codec.specs.Versions.{version_spelling}
 use Rattle.worked_histories.specs.Worked.{the_shard, key, writer, keeper, reader, early_batch, late_batch, early_part}
 use Rattle.worked_histories.specs.Worked.{state5}
 use Rattle.worked_histories.specs.Worked.{version0, version1, version2, version3, version4, version5}

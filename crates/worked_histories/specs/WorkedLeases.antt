@@ -9,7 +9,7 @@ use Rattle.state_core.specs.declared.members.Member.{Member}
 use Rattle.state_core.specs.declared.transitions.Transition.{Transition}
 use Rattle.state_core.specs.declared.transitions.Transition.TheVariants.{Renew, Expire}
 use Rattle.state_core.specs.States.{ShardState}
-use Rattle.state_core.specs.Versions.{version_spelling}
+use Rattle.version_codec.specs.Versions.{version_spelling}
 use Rattle.history_core.specs.declared.asked.Asked.TheVariants.{Snapshot, Collect}
 use Rattle.history_core.specs.Legal.{Command}
 use Rattle.worked_histories.specs.Worked.{the_shard, key, writer, keeper, reader, state6, merged_part, version6}

@@ -6,7 +6,7 @@ ghost use Rattle.store_core.specs.declared.outcomes.Outcome.{Outcome};
 ghost use Rattle.store_core.specs.declared.outcomes.Outcome.TheVariants.{FailedTook, FailedLost};
 ghost use Rattle.store_core.specs.Histories.{reply, store_after};
 ghost use Rattle.state_core.specs.declared.transitions.Transition.TheVariants.{Init};
-ghost use Rattle.state_core.specs.VersionReading.{version_in};
+ghost use Rattle.version_codec.specs.Reading.{version_in};
 ghost use Rattle.history_core.specs.Readings.{rows_in};
 ghost use Rattle.history_core.specs.Discipline.{Lawful};
 ghost use Rattle.history_core.specs.Stands.{StandsFor, accepted_of};

@@ -4,7 +4,7 @@ ghost use Rattle.std.specs.Prelude.{◌≡◌, Some, None, [], ◌∷◌};
 ghost use Rattle.store_core.specs.declared.calls.Call.TheVariants.{Get};
 ghost use Rattle.store_core.specs.declared.replies.Reply.TheVariants.{Bytes};
 ghost use Rattle.store_core.specs.Histories.{reply, store_after};
-ghost use Rattle.state_core.specs.VersionReading.{version_in};
+ghost use Rattle.version_codec.specs.Reading.{version_in};
 ghost use Rattle.history_core.specs.declared.collect_answers.CollectAnswer.TheVariants.{Collected};
 ghost use Rattle.history_core.specs.declared.read_answers.ReadAnswer.TheVariants.{Rows, Expired};
 ghost use Rattle.history_core.specs.Discipline.{Lawful};

@@ -9,7 +9,7 @@ use Rattle.store_core.specs.Ports.{OfOthers}
 use Rattle.store_core.specs.Newest.{mine_back, replay_back}
 use Rattle.state_core.specs.declared.kinds.Kind.TheVariants.{Writer as AsWriter}
 use Rattle.state_core.specs.declared.transitions.Transition.TheVariants.{Join, Leave}
-use Rattle.state_core.specs.VersionReading.{most}
+use Rattle.update_core.specs.Limits.{most}
 use Rattle.history_core.specs.declared.asked.Asked.{Asked}
 use Rattle.history_core.specs.Discipline.{LawfulBack}
 use Rattle.history_core.specs.Placing.{places}

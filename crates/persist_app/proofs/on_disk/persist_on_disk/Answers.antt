@@ -2,8 +2,8 @@ use Rattle.std.proofs.Common.{ℕ, ◌+◌, ◌≤◌, Option, map, string_bytes
 use Rattle.store_core.specs.Histories.{History}
 use Rattle.store_file.specs.FileStores.{disk_faults, file_faults, history_of, told}
 use Rattle.persist_app.specs.DiskLefts.{opened}
-use Rattle.persist_app.specs.PlainEnds.{EndsPlainly}
-use Rattle.persist_app.proofs.DiskEndings.{ends_since, first_accepted, first_calls, stands_now, started}
+use Rattle.persist_app.specs.TopEnds.{EndsTop}
+use Rattle.persist_app.proofs.DiskEndings.{top_since, first_accepted, first_calls, stands_now, started}
 use Rattle.persist_app.proofs.DiskOpenings.{rose_before}
 use Rattle.persist_app.proofs.on_disk.persist_on_disk.Goals as goal
 
@@ -26,10 +26,10 @@ returns-in-Ok-clause-ends g c =
     let src_now = c.over_file-status.new.src in
     let out_now = c.over_file-status.new.out in
     let ends = c.over_file-status.ensures.ends in
-    ends_since words status (opened last) (told last) (g.D.Disk.faults c.args.disk) (file_faults first) (file_faults last)
+    top_since words status (opened last) (told last) (g.D.Disk.faults c.args.disk) (file_faults first) (file_faults last)
     (left src) (left src_now) (reads src) (reads src_now) (faults src) (faults src_now) (taken out) (taken out_now) (puts out) (puts out_now)
     (at_most (g.D.Disk.faults c.args.disk) (disk_faults first) first.refused c.in-Ok.ensures.later)
-    (subst (λ (t : Option History). EndsPlainly words status t (told last) (file_faults first) (file_faults last)
+    (subst (λ (t : Option History). EndsTop words status t (told last) (file_faults first) (file_faults last)
     (left src) (left src_now) (reads src) (reads src_now) (faults src) (faults src_now) (taken out) (taken out_now) (puts out) (puts out_now))
     (started (history_of first) (history_of last) c.in-Ok.ensures.trail ends.store) ends)
 

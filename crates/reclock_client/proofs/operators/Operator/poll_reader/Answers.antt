@@ -1,4 +1,7 @@
-use Rattle.std.proofs.Common.{◌≡◌, ℕ, ap, ◌∙◌}
+use Rattle.reclock_client.proofs.Keeping.{reader_knew, reader_knows}
+use Rattle.reclock_client.specs.Commands.{Next}
+use Rattle.std.proofs.Common.{◌≡◌, ℕ, ap, subst, ◌∙◌}
+use Rattle.reclock_client.specs.Operators.{IsOpen}
 use Rattle.reclock_client.specs.Polling.{counted}
 use Rattle.reclock_client.proofs.Polled.{read_came, read_left, of_busy, of_fault, on_err}
 use Rattle.std.specs.Prelude.{Ok}
@@ -68,3 +71,15 @@ returns-clause-turn g c = (read_came (g.P.Port.client c.args.port.now) (g.P.Port
     (record { polled = c.in_ok-poll.ensures.polled; legal = c.in_ok-poll.ensures.legal; cost = c.in_ok-poll.ensures.cost })
     c.in_ok-poll.ensures.follows c.in_ok-poll.ensures.sound (c.counted-self.ensures ∙ ap (λ (k : ℕ). counted c.in_ok-poll.poll c.args.self.now.calls k) c.calls.ensures)
     c.after_reader_poll.ensures.next c.after_reader_poll.ensures.course).turn
+
+pub returns-in_err-poll-clause-knows : goal.returns-in_err-poll-clause-knows
+returns-in_err-poll-clause-knows g c = λ k counts. reader_knew (g.P.Port.client c.args.port.now) (g.P.Port.front c.args.port.now) (g.P.Port.front c.poll.new.port) c.args.self.now
+    c.requires.busy c.requires.taken c.poll.new.self c.in_err-poll.ensures.memory k
+
+pub returns-clause-knows : goal.returns-clause-knows
+returns-clause-knows g c = λ k counts. reader_knows (g.P.Port.client c.args.port.now) (g.P.Port.front c.args.port.now) (g.P.Port.front c.poll.new.port) c.args.self.now
+    c.requires.busy c.requires.taken c.requires.sound c.requires.turn c.requires.part
+    (subst (IsOpen c.args.self.now) c.requires.part c.requires.open) c.poll.new.self c.in_ok-poll.poll c.after_reader_poll.new.self
+    c.counted-self.result c.in_ok-poll.ensures.polled c.in_ok-poll.ensures.legal
+    (c.counted-self.ensures ∙ ap (λ (n : ℕ). counted c.in_ok-poll.poll c.args.self.now.calls n) c.calls.ensures)
+    (ap (λ (x : Next). x.0) c.after_reader_poll.ensures.next) k counts

@@ -1,3 +1,5 @@
+use Rattle.reclock_client.proofs.Keeping.{remap_knew, remap_knows}
+use Rattle.reclock_client.specs.Commands.{Next}
 use Rattle.std.proofs.Common.{◌≡◌, ℕ, ap, ◌∙◌}
 use Rattle.reclock_client.specs.Polling.{counted}
 use Rattle.reclock_client.proofs.Polled.{remap_came, remap_left, of_busy, of_fault, on_err}
@@ -68,3 +70,12 @@ returns-clause-turn g c = (remap_came (g.P.Port.client c.args.port.now) (g.P.Por
     (record { polled = c.in_ok-poll.ensures.polled; legal = c.in_ok-poll.ensures.legal; cost = c.in_ok-poll.ensures.cost })
     c.in_ok-poll.ensures.follows c.in_ok-poll.ensures.sound (c.counted-self.ensures ∙ ap (λ (k : ℕ). counted c.in_ok-poll.poll c.args.self.now.calls k) c.calls.ensures)
     c.after_remap_poll.ensures.next c.after_remap_poll.ensures.course).turn
+
+pub returns-in_err-poll-clause-knows : goal.returns-in_err-poll-clause-knows
+returns-in_err-poll-clause-knows g c = λ k counts. remap_knew (g.P.Port.client c.args.port.now) (g.P.Port.front c.args.port.now) (g.P.Port.front c.poll.new.port) c.args.self.now
+    c.requires.busy c.requires.taken c.poll.new.self c.in_err-poll.ensures.memory k
+
+pub returns-clause-knows : goal.returns-clause-knows
+returns-clause-knows g c = λ k counts. remap_knows (g.P.Port.client c.args.port.now) (g.P.Port.front c.args.port.now) (g.P.Port.front c.poll.new.port) c.args.self.now
+    c.requires.busy c.requires.taken c.poll.new.self c.in_ok-poll.poll c.after_remap_poll.new.self c.counted-self.result
+    c.in_ok-poll.ensures.polled (ap (λ (x : Next). x.0) c.after_remap_poll.ensures.next) k

@@ -1,0 +1,3 @@
+pub mod TextRead
+pub mod FaultEnds
+pub mod FeedEnds

@@ -1,0 +1,13 @@
+mod LookRule
+mod LookLaws
+mod FaultLaws
+mod BoundLaws
+mod EndLaws
+mod BeginLaws
+mod CrewGoes
+mod AskLaws
+mod FinishLaws
+mod WorkLaws
+mod IngestLaws
+mod IdleReaders
+mod HaltLaws

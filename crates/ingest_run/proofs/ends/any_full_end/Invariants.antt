@@ -1,0 +1,6 @@
+use Rattle.std.proofs.Common.{◌≡◌, drop}
+use Rattle.ingest_run.specs.Verdicts.{any_end, is_full_end}
+use Rattle.ingest_run.proofs.ends.any_full_end.Given as goal
+
+abbrev pub invariant-loop-end : goal.invariant-loop-end
+invariant-loop-end l = any_end is_full_end (drop l.end-index l.ends) ≡ any_end is_full_end l.ends

@@ -1,8 +1,0 @@
-use Rattle.std.proofs.Common.{length}
-use Rattle.state_core.specs.VersionDrafts.{drafted}
-use Rattle.state_core.proofs.VersionStates.{state_took}
-use Rattle.state_core.proofs.version_decoding.whole_version.Goals as goal
-
-pub finished-requires : goal.finished-requires
-finished-requires c =
-    (state_took (length c.args.bytes.now) c.args.shard c.args.number c.in_ok-rest-2.rest.now (drafted c.in_ok-draft.draft, c.in_ok-draft.rest.now) c.in_ok-draft.ensures).state

@@ -1,9 +1,0 @@
-use Rattle.std.proofs.Common.{◌≡◌, ◌*◌, ◌+◌, drop}
-use Rattle.state_core.specs.VersionReading.{reader_place}
-use Rattle.state_core.proofs.version_heads.reader_place.Given as goal
-
-abbrev pub invariant-loop-member : goal.invariant-loop-member
-invariant-loop-member l = record {
-  read : reader_place l.found l.place (drop l.member-index l.members) ≡ reader_place 0 l.start l.members;
-  place : l.place ≡ l.start + 49 * l.member-index;
-}

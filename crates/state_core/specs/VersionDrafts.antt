@@ -1,7 +1,0 @@
--- What is read of a state so far, as a state.
-use Rattle.state_core.specs.States.{ShardState}
-use Rattle.state_core.specs.declared.version_drafts.Draft.{Draft}
-
--- the state that is read so far
-abbrev pub drafted : Draft → ShardState
-drafted d = record { shard = d.shard; number = d.number; next_member = d.next_member; since = d.since; upper = d.upper; weight = d.weight; members = d.members; batches = d.spine }

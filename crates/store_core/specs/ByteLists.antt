@@ -1,6 +1,0 @@
--- Which lists of numbers are lists of bytes.
-use Rattle.std.specs.Prelude.{◌<◌, ℕ, List, get_or}
-
--- each is a byte
-abbrev pub IsBytes : List ℕ → Type 0
-IsBytes bytes = (i : ℕ) → get_or bytes i 0 < 256

@@ -1,0 +1,16 @@
+pub mod Facts
+pub mod Writing
+pub mod FieldLaws
+pub mod Members
+pub mod MemberLists
+pub mod Keys
+pub mod Batches
+pub mod BatchRules
+pub mod BatchLists
+pub mod StepLaws
+pub mod Transitions
+pub mod States
+pub mod Loops
+pub mod MemberLoops
+pub mod Last
+pub mod Decoded
