@@ -47,7 +47,7 @@ use Rattle.crew_workers.specs.Ends.{IsReadAnswered, Once, PinMeans, UpperIs, Was
 use Rattle.crew_workers.specs.Looping.{EndCounts}
 use Rattle.crew.specs.declared.seats.Seat.{Seat}
 use Rattle.crew.specs.Crews.{CrewRan, CrewRanOn}
-use Rattle.crew_workers.specs.Posts.{opened}
+use Rattle.crew_workers.specs.Posts.{made_before, made_in, opened}
 use Rattle.crew.specs.Seats.{AllEndAs, CountsAs, EndsAs, EndsOn, HasNumber, HasWorked, IsPrefixOf, KinKeeps, NumberedFrom}
 use Rattle.crew.specs.Seats.{IsAlone, PlacedFrom, SeenSame, Suits, Shows, next_number, own_number, ShowsSeat, Works, ends_of, share_in, shares_of}
 use Rattle.crew.specs.declared.plans.Plan.{Plan}
@@ -70,46 +70,51 @@ first_in kin [] newer h = tt
 first_in kin (x ∷ older) newer h = (h.0, first_in kin older newer h.1)
 
 -- a worker's role is one of the plan's crew
-suits : (plan : Plan) (own : List Answered) (job : Job) → SuitsCrew plan.appends own (role_of job plan.appends)
+suits : (plan : Plan) (own : List Answered) (job : Job) → SuitsCrew plan.appends own (role_of job plan.appends (length own))
 suits plan own jobs.Write = refl
 suits plan own jobs.Merge = tt
 suits plan own jobs.Collect = tt
 suits plan own jobs.Pin = tt
+suits plan own jobs.Follow = refl
+
+-- what each client may commit
+abbrev roles : Plan → History → ℕ → Role
+roles plan h n = role_in plan n (made_in (Some h) n)
 
 pub crew_ran : (plan : Plan) (h : History) (gain : List Entry) (kin : List (ℕ × List Entry)) → IsFeed plan.appends →
-    EachIn entry_client kin gain → ((n : ℕ) → 0 < times n kin → Keeps (IsWorkersEntry (role_in plan n) plan.shard) plan.shard n h gain) →
+    EachIn entry_client kin gain → ((n : ℕ) → 0 < times n kin → Keeps (IsWorkersEntry (roles plan h n) plan.shard) plan.shard n h gain) →
     CrewRan plan h (with_entries h gain)
 crew_ran plan h gain kin feed each keeps = record {
   gain = gain;
   now_is = refl;
-  lawful = λ list st l. lawful_law (role_in plan) plan.appends plan.shard list kin h gain st l all;
+  lawful = λ list st l. lawful_law (roles plan h) plan.appends plan.shard list kin h gain st l all;
   each = λ list st l older newer e split.
       let mine = in_kin kin older newer e (subst (EachIn entry_client kin) split each) in
-      let whole = lawful_law (role_in plan) plan.appends plan.shard list kin h gain st l all in
+      let whole = lawful_law (roles plan h) plan.appends plan.shard list kin h gain st l all in
       let joined : with_entries (with_entries h older) (e ∷ newer) ≡ with_entries h gain =
       entries_joined h older (e ∷ newer) ∙ ap (with_entries h) (sym split) in
       keeps e.client mine older newer e split refl list st
       (prefix_lawful (with_entries h older) (e ∷ newer) (subst Lawful (sym joined) whole));
   collection = λ list st l c has older newer split.
-      competing_law (role_in plan) plan.appends plan.shard list kin h older feed.follow st l (some older newer split) c has;
+      competing_law (roles plan h) plan.appends plan.shard list kin h older feed.follow st l (some older newer split) c has;
   readers = λ list st l member since there older newer split.
-      readers_law (role_in plan) plan.appends plan.shard list kin h older st l (some older newer split) member since there;
+      readers_law (roles plan h) plan.appends plan.shard list kin h older st l (some older newer split) member since there;
 }
   where
-    all : FromWorkers (role_in plan) plan.appends plan.shard kin h gain
+    all : FromWorkers (roles plan h) plan.appends plan.shard kin h gain
     all = record {
       each_of = each;
       each_suits = λ n mine. suits plan (mine_back h.start (reverse h.trail) n) (job_in plan n);
       each_keeps = keeps;
     }
 
-    some : (older newer : List Entry) → gain ≡ older ++ newer → FromWorkers (role_in plan) plan.appends plan.shard kin h older
+    some : (older newer : List Entry) → gain ≡ older ++ newer → FromWorkers (roles plan h) plan.appends plan.shard kin h older
     some older newer split = record {
       each_of = first_in kin older newer (subst (EachIn entry_client kin) split each);
       each_suits = λ n mine. suits plan (mine_back h.start (reverse h.trail) n) (job_in plan n);
       each_keeps = λ n mine.
-          keeps_first (IsWorkersEntry (role_in plan n) plan.shard) plan.shard n h older newer
-          (subst (Keeps (IsWorkersEntry (role_in plan n) plan.shard) plan.shard n h) split (keeps n mine));
+          keeps_first (IsWorkersEntry (roles plan h n) plan.shard) plan.shard n h older newer
+          (subst (Keeps (IsWorkersEntry (roles plan h n) plan.shard) plan.shard n h) split (keeps n mine));
     }
 
 module _ {S : Type 0} where
@@ -199,7 +204,7 @@ first_keeps {S = S} {G = G} plan t seats rest first p is worked suits there =
     let same : k.pass ≡ p = one_some k.pass p (sym k.there ∙ there) in
     kin_as plan G.history (view p) first.job (subst (λ (q : Pass (CountedStore S G) S Entry). IsAlone (view q)) same k.alone)
     (subst (λ (o : Option (Pass (CountedStore S G) S Entry)). IfSome o (λ q. first.job ≡ job_in plan (view q).number)) there fits)
-    (subst (λ (q : Pass (CountedStore S G) S Entry). KinKeeps (λ n. role_of first.job plan.appends) plan.shard G.history (view q)) same
+    (subst (λ (q : Pass (CountedStore S G) S Entry). KinKeeps (λ n made. role_of first.job plan.appends made) plan.shard G.history (view q)) same
     k.keeps)
 
 -- where there is none there are seats
@@ -250,7 +255,12 @@ module _ {S : Type 0} {G : Ghosts S} (appends : List FeedAppend) (shard : ShardI
   all_placed plan worker (x ∷ xs) [] len works h = absurd (omega arith)
   all_placed plan worker (x ∷ xs) (y ∷ ys) len works h =
       let first : Works appends shard t x y = works 0 x (omega arith) in (
-        record { number = first.worker ∙ h.0.number; stop = first.stop ∙ h.0.stop; job = first.job ∙ h.0.job },
+        record {
+          number = first.worker ∙ h.0.number;
+          stop = first.stop ∙ h.0.stop;
+          job = first.job ∙ h.0.job;
+          as_of = first.as_of ∙ h.0.as_of;
+        },
         all_placed plan (worker + 1) xs ys (omega arith) (λ i d lt. works (suc i) d (omega arith)) h.1,
       )
 
@@ -274,7 +284,7 @@ module _ {S : Type 0} {G : Ghosts S} (appends : List FeedAppend) (shard : ShardI
 
   one_ends : (client : ℕ) (s : Seat S G) (w : View S Entry) (h : History) → opened G.history w ≡ Some h →
       w.start ≡ told_of (first_value t) → HasWorked appends shard t s → HasNumber client s → ShowsSeat w s → IsPrefixOf w s →
-      EndsAs (role_of s.job appends) shard client s.stop s.end h w.gain
+      EndsAs (role_of s.job appends (made_in (Some h) client)) shard client s.stop s.end h w.gain
   one_ends client s w h told start k number shows prefix =
       let v : View S Entry = view k.pass in
       let number_is : v.number ≡ client = subst (λ (o : Option _). IfSome o (λ p. (view p).number ≡ client)) k.there number in
@@ -284,9 +294,12 @@ module _ {S : Type 0} {G : Ghosts S} (appends : List FeedAppend) (shard : ShardI
       let told2 : opened G.history v ≡ Some h = ap (told_history G.history) (k.is_pass.start ∙ sym start) ∙ told in
       record {
         counts = counts_by client s.stop v h w.gain s.end told2 number_is (shown client mine).1 k.shown.counts;
-        means = subst (λ (n : ℕ). EndMeans (role_of s.job appends) shard n (Some (with_entries h w.gain)) s.end) number_is
-            (means_grown (role_of s.job appends) shard v.number h v.gain w.gain s.end begins
-            (subst (λ (f : Option History). EndMeans (role_of s.job appends) shard v.number f s.end) (front_is G.history v h told2) k.shown.means));
+        means = subst (λ (n : ℕ). EndMeans (role_of s.job appends (made_in (Some h) n)) shard n (Some (with_entries h w.gain)) s.end) number_is
+            (means_grown (role_of s.job appends (made_in (Some h) v.number)) shard v.number h v.gain w.gain s.end begins
+            (subst (λ (o : Option History). EndMeans (role_of s.job appends (made_in o v.number)) shard v.number
+            (Some (with_entries h v.gain)) s.end) told2
+            (subst (λ (f : Option History). EndMeans (role_of s.job appends (made_before G.history v)) shard v.number f s.end)
+            (front_is G.history v h told2) k.shown.means)));
       }
 
 module _ {S : Type 0} {G : Ghosts S} (plan : Plan) (t : Turnstile (CountedStore S G) S Entry) where
@@ -296,9 +309,10 @@ module _ {S : Type 0} {G : Ghosts S} (plan : Plan) (t : Turnstile (CountedStore 
       PlacedFrom plan worker ss → AllEndAs plan worker (ends_of ss) h w.gain
   all_end worker [] w h told start a b c d e = tt
   all_end worker (s ∷ ss) w h told start a b c d e = (
-    subst (λ (o : Option ℕ). EndsAs (role_of (job_of plan worker) plan.appends) plan.shard (client_of plan worker) o s.end h w.gain)
-        e.0.stop
-        (subst (λ (j : Job). EndsAs (role_of j plan.appends) plan.shard (client_of plan worker) s.stop s.end h w.gain) e.0.job
+    subst (λ (o : Option ℕ). EndsAs (role_of (job_of plan worker) plan.appends (made_in (Some h) (client_of plan worker))) plan.shard
+        (client_of plan worker) o s.end h w.gain) e.0.stop
+        (subst (λ (j : Job). EndsAs (role_of j plan.appends (made_in (Some h) (client_of plan worker))) plan.shard (client_of plan worker)
+        s.stop s.end h w.gain) e.0.job
         (one_ends plan.appends plan.shard t (client_of plan worker) s w h told start a.0 (is_client plan worker s e.0 b.0) c.0 d.0)),
     all_end (worker + 1) ss w h told start a.1 (is_next plan worker s e.0 ss b.1) c.1 d.1 e.1,
   )

@@ -13,6 +13,7 @@ use Rattle.std.proofs.option.Option.TheSendSync as options
 use Rattle.crew.specs.contracts.seats.Seat as seat
 use Rattle.crew_core.proofs.jobs.Job.TheSendSync as jobs
 use Rattle.crew_workers.proofs.ends.WorkerEnd.TheSendSync as ends
+use Rattle.crew_workers.proofs.heards.Heard.TheSendSync as heards
 use Rattle.read_client.specs.contracts.readers.Reader as reader
 use Rattle.read_client.proofs.readers.Reader.TheSendSync as readers
 
@@ -27,8 +28,11 @@ seat_send S g s = declared_send (seat.the_type S g) (
     (
       options.the_send u64 (search sendable),
       (
-        options.the_send (pass.the_row (counted.the_row S g) S entry.the_row) (pass_send S g s),
-        (options.the_send reader.the_row readers.the_send, (ends.the_send, tt)),
+        search sendable,
+        (
+          options.the_send (pass.the_row (counted.the_row S g) S entry.the_row) (pass_send S g s),
+          (options.the_send reader.the_row readers.the_send, (heards.the_send, (ends.the_send, tt))),
+        ),
       ),
     ),
   ),

@@ -1,5 +1,6 @@
 mod Crossing
 mod CrewEnds
+mod Hearing
 mod Numbers
 mod PinBack
 mod PinSeats

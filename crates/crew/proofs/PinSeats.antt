@@ -31,13 +31,13 @@ use Rattle.crew_workers.specs.declared.ends.WorkerEnd.{WorkerEnd}
 use Rattle.crew.specs.declared.plans.Plan.{Plan}
 use Rattle.crew.specs.declared.seats.Seat.{Seat}
 use Rattle.crew.specs.Crews.{IsEndOf, LeavesPin}
-use Rattle.crew.specs.Plans.{client_of, first_of, job_of, workers_of}
+use Rattle.crew.specs.Plans.{client_of, job_of, pin_of, workers_of}
 use Rattle.crew_workers.specs.Pinning.{IsPinLeft, IsPinOf}
 use Rattle.crew_workers.specs.Posts.{opened}
 use Rattle.crew.specs.Seats.{HasNumber, HasPin, HasWorked, HaveNone, IsPrefixOf, IsReadySeat, IsSeated, NoPin, NumberedFrom}
-use Rattle.crew.specs.Seats.{PinsIdle, PinsLeft, PlacedFrom, Shows, ShowsSeat, Works, ends_of, pins_of}
+use Rattle.crew.specs.Seats.{AreUnheard, listens_of, PinsIdle, PinsLeft, PlacedFrom, Shows, ShowsSeat, Works, ends_of, pins_of}
 use Rattle.crew.proofs.CrewEnds.{front_none}
-use Rattle.crew.proofs.Numbers.{client_first, is_client, is_next, next_of, no_pin, pin_at, pin_job}
+use Rattle.crew.proofs.Numbers.{client_first, is_client, is_next, next_of, no_pin, pin_at, pin_job, pin_none, pin_some}
 use Rattle.crew_workers.proofs.PortKeeping.{front_is}
 use Rattle.crew.proofs.Seating.{rest_of_others}
 
@@ -48,7 +48,7 @@ none_idle : (plan : Plan) (front : Option History) (worker : ℕ) (pins : List (
     PinsIdle plan front worker pins
 none_idle plan front worker [] h = tt
 none_idle plan front worker (pin ∷ more) h = (
-  subst (λ (o : Option Reader). IfSome o (λ r. (worker ≡ first_of plan) × ((r.asked ≡ None) × IsPinOf plan.shard 0 front r))) (sym h.0)
+  subst (λ (o : Option Reader). IfSome o (λ r. (worker ≡ pin_of plan) × ((r.asked ≡ None) × IsPinOf plan.shard 0 front r))) (sym h.0)
       tt,
   none_idle plan front (worker + 1) more h.1,
 )
@@ -62,7 +62,7 @@ module _ {S : Type 0} {G : Ghosts S} where
       let placed2 = subst (λ (ss : List (Seat S G)). PlacedFrom plan worker ss) is placed in
       let none2 = subst (λ (ss : List (Seat S G)). HaveNone (pins_of ss)) is none in
       let may2 = subst (λ (ss : List (Seat S G)). NoPin ss ⊎ IsPinOf plan.shard 0 front pin) is may in
-      let at : worker ≡ first_of plan = pin_at plan worker (ap is_pin (sym placed2.0.job) ∙ job) in (
+      let at : worker ≡ pin_of plan = pin_at plan worker (ap is_pin (sym placed2.0.job) ∙ job) in (
         elim may2 [ inl k ↦ absurd (let bad : false ≡ true = sym k.0 ∙ job in cc) | inr k ↦ (at, (idle, k)) ],
         none_idle plan front (worker + 1) (pins_of rest) none2.1,
       )
@@ -82,11 +82,11 @@ module _ {S : Type 0} {G : Ghosts S} where
   idle_none plan front worker seats none = none_idle plan front worker (pins_of seats) none
 
   -- a plan with collectors has a seat for the pin
-  pub some_pin : (plan : Plan) (worker : ℕ) (seats : List (Seat S G)) (gap : ℕ) → worker + gap ≡ first_of plan → gap < length seats →
+  pub some_pin : (plan : Plan) (worker : ℕ) (seats : List (Seat S G)) (gap : ℕ) → worker + gap ≡ pin_of plan → gap < length seats →
       PlacedFrom plan worker seats → NoPin seats → ⊥
   some_pin plan worker [] gap at within placed none = omega arith
   some_pin plan worker (s ∷ ss) zero at within placed none =
-      let here : worker ≡ first_of plan = omega arith in
+      let here : worker ≡ pin_of plan = omega arith in
       let bad : true ≡ false = sym (pin_job plan worker here) ∙ ap is_pin (sym placed.0.job) ∙ none.0 in
       cc
   some_pin plan worker (s ∷ ss) (suc gap) at within placed none =
@@ -98,7 +98,7 @@ module _ {S : Type 0} {G : Ghosts S} (plan : Plan) (t : Turnstile (CountedStore 
     (start : v.start ≡ told_of (first_value t)) where
   ready_one : (worker : ℕ) (s : Seat S G) (seated : IsSeated t s) → HasNumber (client_of plan worker) s →
       s.job ≡ job_of plan worker → (o : Option Reader) →
-      IfSome o (λ r. (worker ≡ first_of plan) × ((r.asked ≡ None) × IsPinOf plan.shard 0 (front_of G.history v) r)) →
+      IfSome o (λ r. (worker ≡ pin_of plan) × ((r.asked ≡ None) × IsPinOf plan.shard 0 (front_of G.history v) r)) →
       IfSome o (λ r. (is_pin s.job ≡ true) × ((r.asked ≡ None) ×
       IsPinOf plan.shard (view seated.pass).number (front_of G.history (view seated.pass)) r))
   ready_one worker s seated number job None k = tt
@@ -120,14 +120,16 @@ module _ {S : Type 0} {G : Ghosts S} (plan : Plan) (t : Turnstile (CountedStore 
       )
 
   pub all_ready : (worker : ℕ) (ss : List (Seat S G)) → AllByRecursion (IsSeated t) ss → NumberedFrom (next_of plan worker) ss →
-      PlacedFrom plan worker ss → PinsIdle plan (front_of G.history v) worker (pins_of ss) → AllByRecursion (IsReadySeat plan.shard t) ss
-  all_ready worker [] a b c d = tt
-  all_ready worker (s ∷ ss) a b c d = (
+      PlacedFrom plan worker ss → PinsIdle plan (front_of G.history v) worker (pins_of ss) → AreUnheard (listens_of ss) →
+      AllByRecursion (IsReadySeat plan.shard t) ss
+  all_ready worker [] a b c d e = tt
+  all_ready worker (s ∷ ss) a b c d e = (
     record {
       seated = a.0;
+      unheard = e.0;
       pin = ready_one worker s a.0 (is_client plan worker s c.0 b.0) c.0.job s.pin d.0;
     },
-    all_ready (worker + 1) ss a.1 (is_next plan worker s c.0 ss b.1) c.1 d.1,
+    all_ready (worker + 1) ss a.1 (is_next plan worker s c.0 ss b.1) c.1 d.1 e.1,
   )
 
 -- ---- after the work
@@ -169,8 +171,8 @@ module _ {S : Type 0} where
 module _ {S : Type 0} {G : Ghosts S} (plan : Plan) (t : Turnstile (CountedStore S G) S Entry) (w : View S Entry)
     (start : w.start ≡ told_of (first_value t)) where
   left_one : (worker : ℕ) (s : Seat S G) → HasWorked plan.appends plan.shard t s → HasNumber (client_of plan worker) s → ShowsSeat w s →
-      IsPrefixOf w s → worker ≡ first_of plan → (o : Option Reader) → s.pin ≡ o →
-      IfSome o (λ r. (worker ≡ first_of plan) × IsPinLeft plan.shard 0 (front_of G.history w) r s.end)
+      IsPrefixOf w s → worker ≡ pin_of plan → (o : Option Reader) → s.pin ≡ o →
+      IfSome o (λ r. (worker ≡ pin_of plan) × IsPinLeft plan.shard 0 (front_of G.history w) r s.end)
   left_one worker s k number shows prefix at None is = tt
   left_one worker s k number shows prefix at (Some r) is =
       let u : View S Entry = view k.pass in
@@ -207,13 +209,13 @@ module _ {S : Type 0} {G : Ghosts S} (plan : Plan) (t : Turnstile (CountedStore 
   pins_left front worker (x ∷ xs) (y ∷ ys) len works a b c d e =
       let first : Works plan.appends plan.shard t x y = works 0 x (omega arith) in (
         by y.pin refl
-            (held_at x.pin y.pin (λ r. (r.asked ≡ None) × IsPinOf plan.shard 0 front r) (worker ≡ first_of plan) first.held a.0 y.pin refl),
+            (held_at x.pin y.pin (λ r. (r.asked ≡ None) × IsPinOf plan.shard 0 front r) (worker ≡ pin_of plan) first.held a.0 y.pin refl),
         pins_left front (worker + 1) xs ys (omega arith) (λ i f lt. works (suc i) f (omega arith)) a.1
             (is_next plan worker y c.0 ys b.1) c.1 d.1 e.1,
       )
     where
-      by : (o : Option Reader) → y.pin ≡ o → IfSome o (λ r. worker ≡ first_of plan) →
-          IfSome o (λ r. (worker ≡ first_of plan) × IsPinLeft plan.shard 0 (front_of G.history w) r y.end)
+      by : (o : Option Reader) → y.pin ≡ o → IfSome o (λ r. worker ≡ pin_of plan) →
+          IfSome o (λ r. (worker ≡ pin_of plan) × IsPinLeft plan.shard 0 (front_of G.history w) r y.end)
       by None is at = tt
       by (Some r) is at =
           let first : Works plan.appends plan.shard t x y = works 0 x (omega arith) in
@@ -238,12 +240,12 @@ module _ {S : Type 0} {G : Ghosts S} (plan : Plan) (t : Turnstile (CountedStore 
 -- the one that some seat has, with the end there
 found : (plan : Plan) (now : Option History) (r : Reader) (worker : ℕ) (pins : List (Option Reader)) (ends : List WorkerEnd) →
     Among (λ p. p ≡ Some r) pins → PinsLeft plan now worker pins ends →
-    (i : ℕ) × (worker + i ≡ first_of plan) × ((end : WorkerEnd) × IsEndOf i ends end × IsPinLeft plan.shard 0 now r end)
+    (i : ℕ) × (worker + i ≡ pin_of plan) × ((end : WorkerEnd) × IsEndOf i ends end × IsPinLeft plan.shard 0 now r end)
 found plan now r worker [] ends there k = absurd there
 found plan now r worker (pin ∷ more) [] there k = absurd k
 found plan now r worker (pin ∷ more) (end ∷ ends) there k = elim there [
   | inl is ↦
-      let here = subst (λ (o : Option Reader). IfSome o (λ q. (worker ≡ first_of plan) × IsPinLeft plan.shard 0 now q end)) is k.0 in
+      let here = subst (λ (o : Option Reader). IfSome o (λ q. (worker ≡ pin_of plan) × IsPinLeft plan.shard 0 now q end)) is k.0 in
       (0, none worker ∙ here.0, (end, record { within = omega arith; there = refl }, here.1))
   | inr p ↦
       let (i, at, (last, is, left)) = found plan now r (worker + 1) more ends p k.1 in
@@ -261,7 +263,7 @@ pub left_by : (plan : Plan) (now : Option History) (r : Reader) (pins : List (Op
     Among (λ p. p ≡ Some r) pins → PinsLeft plan now 0 pins ends → LeavesPin plan now r ends
 left_by plan now r pins ends there k =
     let (i, at, (end, is, left)) = found plan now r 0 pins ends there k in
-    let same : i ≡ first_of plan = omega arith in
+    let same : i ≡ pin_of plan = omega arith in
     (end, subst (λ (n : ℕ). IsEndOf n ends end) same is, left)
 
 -- where the pin was given back, or wasn't, by whether there are collectors and whether a command of it was open
@@ -276,21 +278,20 @@ module _ {S : Type 0} {G : Ghosts S} (plan : Plan) (seats : List (Seat S G)) (al
     (placed : PlacedFrom plan 0 seats) where
   -- without collectors no seat is the pin's, and with some one is
   pub none_pin : plan.collectors ≡ 0 → NoPin seats
-  none_pin none = no_pin plan 0 seats (few all none) placed
+  none_pin none = no_pin plan 0 seats (few all (pin_none plan none)) placed
     where
-      few : length seats ≡ plan.writers + plan.compactors + plan.collectors → plan.collectors ≡ 0 →
-          0 + length seats ≤ plan.writers + plan.compactors
+      few : length seats ≡ workers_of plan → pin_of plan ≡ workers_of plan → 0 + length seats ≤ pin_of plan
       few a z = omega arith
 
   pub one_has : 0 < plan.collectors → NoPin seats → ⊥
-  one_has some none = some_pin plan 0 seats (first_of plan) (start (first_of plan)) (more all some) placed none
+  one_has some none = some_pin plan 0 seats (pin_of plan) (start (pin_of plan)) (more all (pin_some plan some) some) placed none
     where
       start : (n : ℕ) → 0 + n ≡ n
       start n = omega arith
 
-      more : length seats ≡ plan.writers + plan.compactors + plan.collectors → 0 < plan.collectors →
-          plan.writers + plan.compactors < length seats
-      more a z = omega arith
+      more : length seats ≡ plan.writers + plan.compactors + plan.collectors + length plan.listens →
+          pin_of plan ≡ plan.writers + plan.compactors → 0 < plan.collectors → pin_of plan < length seats
+      more a p z = omega arith
 
   pub may_be : (A : Type 0) → (0 < plan.collectors → A) → NoPin seats ⊎ A
   may_be A k = by plan.collectors refl

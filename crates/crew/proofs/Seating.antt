@@ -24,7 +24,7 @@ use Rattle.crew_core.specs.Keeping.{Keeps}
 use Rattle.crew_core.specs.KeepingOn.{KeepsOn}
 use Rattle.crew_core.specs.Working.{IsWorkersEntry, Role, role_of}
 use Rattle.crew_core.proofs.Keeping.{keeps_both, keeps_none, keeps_others, of_entries}
-use Rattle.crew_workers.specs.Posts.{SamePass, opened}
+use Rattle.crew_workers.specs.Posts.{SamePass, made_before, made_in, opened}
 use Rattle.store_core.specs.declared.stores.Store.{Ghosts}
 use Rattle.crew.specs.declared.seats.Seat.{Seat}
 use Rattle.crew.specs.declared.plans.Plan.{Plan}
@@ -55,18 +55,22 @@ is_alone v w new same n in_kin =
     (subst (λ (m : ℕ). 0 < m) (same.kin n) in_kin) in
     same.number ∙ only_number n v.number [] mine
 
-pub kin_keeps : {S : Type 0} (role : Role) (shard : ShardId) (history : S → Option History) (v w : View S Entry) →
+pub kin_keeps : {S : Type 0} (roles : ℕ → Role) (shard : ShardId) (history : S → Option History) (v w : View S Entry) →
     IsNew v → SamePass v w →
-    KeepsOn (IsWorkersEntry role shard) shard v.number (front_of history v) (front_of history w) →
-    KinKeeps (λ n. role) shard history w
-kin_keeps role shard history v w new same keeps n in_kin h told =
+    KeepsOn (IsWorkersEntry (roles (made_before history v)) shard) shard v.number (front_of history v) (front_of history w) →
+    KinKeeps (λ n made. roles made) shard history w
+kin_keeps roles shard history v w new same keeps n in_kin h told =
     let number : v.number ≡ n = sym same.number ∙ is_alone v w new same n in_kin in
     let told2 : opened history v ≡ Some h = sym (opened_same history v w same) ∙ told in
     let before : front_of history v ≡ Some h = front_is history v h told2 ∙ ap (λ (es : List Entry). Some (with_entries h es)) new.gain
     ∙ ap (λ (es : List Entry). Some (of_entries h.start es)) (append-nil h.trail) in
     let now : front_of history w ≡ Some (with_entries h w.gain) = front_is history w h told in
+    let role : Role = roles (made_in (Some h) n) in
+    let role_is : roles (made_before history v) ≡ role =
+    ap (λ (o : Option History). roles (made_in o v.number)) told2 ∙ ap (λ (m : ℕ). roles (made_in (Some h) m)) number in
+    let keeps2 = subst (λ (r : Role). KeepsOn (IsWorkersEntry r shard) shard v.number (front_of history v) (front_of history w)) role_is keeps in
     let (more, is, kept) = subst (λ (f : Option History). KeepsOn (IsWorkersEntry role shard) shard v.number f (front_of history w))
-    before keeps in
+    before keeps2 in
     let gain : w.gain ≡ more = rest_is h w.gain [] more (some_is (with_entries h w.gain) (with_entries (with_entries h []) more)
     (sym now ∙ is ∙ ap (λ (es : List Entry). Some (with_entries (of_entries h.start es) more)) (sym (append-nil h.trail)))) in
     subst (λ (es : List Entry). Keeps (IsWorkersEntry role shard) shard n h es) (sym gain)
@@ -74,10 +78,10 @@ kin_keeps role shard history v w new same keeps n in_kin h told =
 
 -- a pass that answers for one client alone keeps what that client keeps in its role
 pub kin_as : {S : Type 0} (plan : Plan) (history : S → Option History) (v : View S Entry) (job : Job) → IsAlone v →
-    job ≡ job_in plan v.number → KinKeeps (λ n. role_of job plan.appends) plan.shard history v →
+    job ≡ job_in plan v.number → KinKeeps (λ n made. role_of job plan.appends made) plan.shard history v →
     KinKeeps (role_in plan) plan.shard history v
 kin_as plan history v job alone suits keeps n in_kin h told =
-    subst (λ (j : Job). Keeps (IsWorkersEntry (role_of j plan.appends) plan.shard) plan.shard n h v.gain)
+    subst (λ (j : Job). Keeps (IsWorkersEntry (role_of j plan.appends (made_in (Some h) n)) plan.shard) plan.shard n h v.gain)
     (suits ∙ ap (job_in plan) (alone n in_kin)) (keeps n in_kin h told)
 
 -- entries that have come since and are of others
@@ -115,7 +119,7 @@ keeps_longer role shard n h xs ys (rest, is) own keeps =
     (keeps_others (IsWorkersEntry role shard) shard n (with_entries h xs) rest of))
 
 -- what both passes keep the joined pass keeps
-pub kin_joined : (S : Type 0) (roles : ℕ → Role) (shard : ShardId) (history : S → Option History) (v w u : View S Entry) →
+pub kin_joined : (S : Type 0) (roles : ℕ → ℕ → Role) (shard : ShardId) (history : S → Option History) (v w u : View S Entry) →
     u ≡ both_of v w → v.start ≡ w.start →
     IsPrefix v.gain u.gain → IsPrefix w.gain u.gain →
     ((n : ℕ) → 0 < times n v.kin → entries_by entry_client n u.gain ≡ entries_by entry_client n v.gain) →
@@ -126,8 +130,8 @@ kin_joined S roles shard history v w u is starts pre pre2 own others keeps keeps
     (ap (λ (x : View S Entry). times n x.kin) is ∙ times_append n v.kin w.kin) in_kin in
     let start : opened history u ≡ opened history v = ap (λ (x : View S Entry). opened history x) is in
     elim (some_of (times n v.kin) (times n w.kin) both) [
-      | inl k ↦ keeps_longer (roles n) shard n h v.gain u.gain pre (own n k) (keeps n k h (sym start ∙ told))
-      | inr k ↦ keeps_longer (roles n) shard n h w.gain u.gain pre2 (others n k)
+      | inl k ↦ keeps_longer (roles n (made_in (Some h) n)) shard n h v.gain u.gain pre (own n k) (keeps n k h (sym start ∙ told))
+      | inr k ↦ keeps_longer (roles n (made_in (Some h) n)) shard n h w.gain u.gain pre2 (others n k)
           (keeps2 n k h (ap (told_history history) (sym starts) ∙ sym start ∙ told))
     ]
   where
@@ -197,8 +201,9 @@ seats_on plan xs ys s worker len is placed place = (
 pub none_kept : {S : Type 0} (plan : Plan) (history : S → Option History) (v : View S Entry) → v.gain ≡ [] →
     KinKeeps (role_in plan) plan.shard history v
 none_kept plan history v unseen n in_kin h told =
-    subst (λ (es : List Entry). Keeps (IsWorkersEntry (role_in plan n) plan.shard) plan.shard n h es) (sym unseen)
-    (keeps_none (IsWorkersEntry (role_in plan n) plan.shard) plan.shard n h)
+    let role = role_in plan n (made_in (Some h) n) in
+    subst (λ (es : List Entry). Keeps (IsWorkersEntry role plan.shard) plan.shard n h es) (sym unseen)
+    (keeps_none (IsWorkersEntry role plan.shard) plan.shard n h)
 
 -- a seat that takes the pass that comes back
 pub seated_back : {S : Type 0} {G : Ghosts S} (t : Turnstile (CountedStore S G) S Entry) (s : Seat S G)

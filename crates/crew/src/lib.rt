@@ -3,11 +3,13 @@
 
 mod crews;
 mod end_lists;
+mod heard_lists;
 mod plans;
 mod seats;
 
-pub use crew_workers::{Gate, Job, OpenGate, Worker, WorkerEnd, WorkerPort, WorkerTurn};
+pub use crew_workers::{Gate, Heard, Job, OpenGate, Worker, WorkerEnd, WorkerPort, WorkerTurn};
 pub use crews::{CrewBack, CrewEnd, run_crew};
 pub use end_lists::EndList;
+pub use heard_lists::HeardList;
 pub use plans::Plan;
 pub use stops_core::{Stop, StopList};

@@ -14,11 +14,11 @@ ghost use Rattle.store_core.specs.Histories.{History};
 ghost use Rattle.crew_workers.specs.Pinning.{IsPinOf};
 ghost use Rattle.crew.specs.Seats.{HasPin, HaveNone, IsReadySeat, PinsIdle, pins_of};
 ghost use Rattle.crew.specs.Seats.{HasNumber, HasWorked, IsNew, IsPrefixOf, IsSeated, KinKeeps, NoPin, NumberedFrom, OnePin, PlacedFrom, SeenSame};
-ghost use Rattle.crew.specs.Seats.{Shows, ShowsSeat, Suits, Works, ends_of, share_in, shares_of};
+ghost use Rattle.crew.specs.Seats.{Shows, ShowsSeat, Suits, Works, ends_of, heard_of, listens_of, share_in, shares_of};
 
 use crate::plans::Plan;
 use crew_core::Job;
-use crew_workers::{Gate, Progress, Task, WorkerEnd, work_with};
+use crew_workers::{Gate, Heard, Progress, Task, WorkerEnd, work_with};
 use read_client::Reader;
 use shared_store::CountedStore;
 use std::alloc::Global;
@@ -29,15 +29,17 @@ use store_core::{ShardId, Store};
 use turnstile::{Pass, Turnstile};
 use update_core::FeedAppend;
 
-/// A worker's place in a crew: its number, what it is for, its stop number if it has one, its pass, the pin if that is in
-/// its hand, and its end.
+/// A worker's place in a crew: its number, what it is for, its stop number if it has one, the time after which it listens, its pass, the pin
+/// if that is in its hand, what it has heard, and its end.
 #[derive(Drop)]
 pub struct Seat<S: Store> {
     pub(crate) worker: u32,
     pub(crate) job: Job,
     pub(crate) stop: Option<u64>,
+    pub(crate) as_of: u64,
     pub(crate) pass: Option<Pass<CountedStore<S>>>,
     pub(crate) pin: Option<Reader>,
+    pub(crate) heard: Heard,
     pub(crate) end: WorkerEnd,
 }
 
@@ -66,10 +68,20 @@ fn sit<S: Store, G: Gate, R: Wait>(
         stop: seat.stop,
         shard,
         appends,
+        as_of: seat.as_of,
         moment,
         progress,
     };
-    let (pass, end) = work_with(rt, alloc, turnstile, pass, gate, task, &mut seat.pin);
+    let (pass, end) = work_with(
+        rt,
+        alloc,
+        turnstile,
+        pass,
+        gate,
+        task,
+        &mut seat.pin,
+        &mut seat.heard,
+    );
     seat.pass = Some(pass);
     seat.end = end;
 }
@@ -84,6 +96,7 @@ pub(crate) fn hand_in<S: Store>(seats: &mut [Seat<S>], pin: Reader) -> Option<Re
         → NoPin seats.old ⊎ IsPinOf plan.shard 0 front pin → PinsIdle plan front worker (pins_of seats.new) }
     ensures length { length seats.new ≡ length seats.old }
     ensures places { (plan : Plan) (worker : ℕ) → PlacedFrom plan worker seats.old → PlacedFrom plan worker seats.new }
+    ensures listens { listens_of seats.new ≡ listens_of seats.old }
 {
     if pin.busy() {
         return Some(pin);
@@ -102,6 +115,7 @@ fn place_pin<S: Store>(seats: &mut [Seat<S>], pin: Reader) -> Option<Reader>
         → NoPin seats.old ⊎ IsPinOf plan.shard 0 front pin → PinsIdle plan front worker (pins_of seats.new) }
     ensures length { length seats.new ≡ length seats.old }
     ensures places { (plan : Plan) (worker : ℕ) → PlacedFrom plan worker seats.old → PlacedFrom plan worker seats.new }
+    ensures listens { listens_of seats.new ≡ listens_of seats.old }
 {
     let Some((first, rest)) = seats.split_first_mut() else {
         return Some(pin);
@@ -199,6 +213,8 @@ fn deal_one<S: Store>(
     ensures stop { seat.new.stop ≡ seat.old.stop }
     ensures job { seat.new.job ≡ seat.old.job }
     ensures pin { seat.new.pin ≡ seat.old.pin }
+    ensures as_of { seat.new.as_of ≡ seat.old.as_of }
+    ensures heard { seat.new.heard ≡ seat.old.heard }
 {
     let Ok(other) = turnstile.split(&mut pass) else {
         unreachable!()
@@ -229,6 +245,7 @@ pub(crate) fn deal<S: Store>(
     ensures length { length seats.new ≡ length seats.old }
     ensures places { (plan : Plan) (worker : ℕ) → PlacedFrom plan worker seats.old → PlacedFrom plan worker seats.new }
     ensures pins { pins_of seats.new ≡ pins_of seats.old }
+    ensures listens { listens_of seats.new ≡ listens_of seats.old }
 {
     let Some((first, rest)) = seats.split_first_mut() else {
         return Some(pass);
@@ -248,6 +265,7 @@ fn take_in<S: Store>(
     plan: &Plan,
     seat: &mut Seat<S>,
     end: &mut WorkerEnd,
+    heard: &mut Heard,
 )
     requires pass { IsPassOf told_of entry_client turnstile.now pass.old }
     requires keeps { KinKeeps (role_in plan.now) plan.now.shard S.history (view pass.old) }
@@ -262,6 +280,7 @@ fn take_in<S: Store>(
     ensures begins { IsPrefix (view pass.old).gain (view pass.new).gain }
     ensures prefix { IsPrefixOf (view pass.new) seat.old }
     ensures end { end.new ≡ seat.old.end }
+    ensures heard { heard.new ≡ seat.old.heard }
     ensures pin { seat.new.pin ≡ seat.old.pin }
 {
     let Some(other) = seat.pass.take() else {
@@ -269,6 +288,7 @@ fn take_in<S: Store>(
     };
     turnstile.join(pass, other);
     *end = mem::replace(&mut seat.end, WorkerEnd::Finished);
+    mem::swap(heard, &mut seat.heard);
 }
 
 /// Takes in the passes and the ends of all seats.
@@ -278,12 +298,14 @@ pub(crate) fn gather<S: Store>(
     plan: &Plan,
     seats: &mut [Seat<S>],
     ends: &mut [WorkerEnd],
+    heard: &mut [Heard],
 )
     requires pass { IsPassOf told_of entry_client turnstile.now pass.old }
     requires keeps { KinKeeps (role_in plan.now) plan.now.shard S.history (view pass.old) }
     requires worked { AllByRecursion (HasWorked plan.now.appends plan.now.shard turnstile.now) seats.old }
     requires suits { AllByRecursion (Suits plan.now) seats.old }
     requires room { length ends.old ≡ length seats.old }
+    requires places { length heard.old ≡ length seats.old }
     ensures pass { IsPassOf told_of entry_client turnstile.now pass.new }
     ensures keeps { KinKeeps (role_in plan.now) plan.now.shard S.history (view pass.new) }
     ensures start { (view pass.new).start ≡ (view pass.old).start }
@@ -293,16 +315,20 @@ pub(crate) fn gather<S: Store>(
     ensures begins { IsPrefix (view pass.old).gain (view pass.new).gain }
     ensures prefix { AllByRecursion (IsPrefixOf (view pass.new)) seats.old }
     ensures ends { ends.new ≡ ends_of seats.old }
+    ensures heard { heard.new ≡ heard_of seats.old }
     ensures pins { pins_of seats.new ≡ pins_of seats.old }
 {
     let Some((first, rest)) = seats.split_first_mut() else {
         return;
     };
-    let Some((end, more)) = ends.split_first_mut() else {
+    let Some((end, ends)) = ends.split_first_mut() else {
         unreachable!()
     };
-    take_in(turnstile, pass, plan, first, end);
-    gather(turnstile, pass, plan, rest, more);
+    let Some((news, heard)) = heard.split_first_mut() else {
+        unreachable!()
+    };
+    take_in(turnstile, pass, plan, first, end, news);
+    gather(turnstile, pass, plan, rest, ends, heard);
 }
 
 /// Takes in the passes and the ends of all seats, beside the pass that no seat took, if there is one.
@@ -312,6 +338,7 @@ pub(crate) fn gather_all<S: Store>(
     plan: &Plan,
     seats: &mut [Seat<S>],
     ends: &mut [WorkerEnd],
+    heard: &mut [Heard],
 ) -> Pass<CountedStore<S>>
     requires kept { IfSome kept (λ p. IsPassOf told_of entry_client turnstile.now p
         × KinKeeps (role_in plan.now) plan.now.shard S.history (view p)) }
@@ -319,6 +346,7 @@ pub(crate) fn gather_all<S: Store>(
     requires worked { AllByRecursion (HasWorked plan.now.appends plan.now.shard turnstile.now) seats.old }
     requires suits { AllByRecursion (Suits plan.now) seats.old }
     requires room { length ends.old ≡ length seats.old }
+    requires places { length heard.old ≡ length seats.old }
     ensures pass { IsPassOf told_of entry_client turnstile.now result }
     ensures keeps { KinKeeps (role_in plan.now) plan.now.shard S.history (view result) }
     ensures shares { (view result).share ≡ share_in kept + shares_of seats.old }
@@ -326,15 +354,16 @@ pub(crate) fn gather_all<S: Store>(
     ensures theirs { AllByRecursion (ShowsSeat (view result)) seats.old }
     ensures prefix { AllByRecursion (IsPrefixOf (view result)) seats.old }
     ensures ends { ends.new ≡ ends_of seats.old }
+    ensures heard { heard.new ≡ heard_of seats.old }
     ensures pins { pins_of seats.new ≡ pins_of seats.old }
 {
     match kept {
         Some(pass) => {
             let mut pass = pass;
-            gather(turnstile, &mut pass, plan, seats, ends);
+            gather(turnstile, &mut pass, plan, seats, ends, heard);
             pass
         }
-        None => gather_from(turnstile, plan, seats, ends),
+        None => gather_from(turnstile, plan, seats, ends, heard),
     }
 }
 
@@ -344,29 +373,36 @@ fn gather_from<S: Store>(
     plan: &Plan,
     seats: &mut [Seat<S>],
     ends: &mut [WorkerEnd],
+    heard: &mut [Heard],
 ) -> Pass<CountedStore<S>>
     requires some { seats.old ≢ [] }
     requires worked { AllByRecursion (HasWorked plan.now.appends plan.now.shard turnstile.now) seats.old }
     requires suits { AllByRecursion (Suits plan.now) seats.old }
     requires room { length ends.old ≡ length seats.old }
+    requires places { length heard.old ≡ length seats.old }
     ensures pass { IsPassOf told_of entry_client turnstile.now result }
     ensures keeps { KinKeeps (role_in plan.now) plan.now.shard S.history (view result) }
     ensures shares { (view result).share ≡ shares_of seats.old }
     ensures theirs { AllByRecursion (ShowsSeat (view result)) seats.old }
     ensures prefix { AllByRecursion (IsPrefixOf (view result)) seats.old }
     ensures ends { ends.new ≡ ends_of seats.old }
+    ensures heard { heard.new ≡ heard_of seats.old }
     ensures pins { pins_of seats.new ≡ pins_of seats.old }
 {
     let Some((first, rest)) = seats.split_first_mut() else {
         unreachable!()
     };
-    let Some((end, more)) = ends.split_first_mut() else {
+    let Some((end, ends)) = ends.split_first_mut() else {
+        unreachable!()
+    };
+    let Some((news, heard)) = heard.split_first_mut() else {
         unreachable!()
     };
     let Some(mut pass) = first.pass.take() else {
         unreachable!()
     };
     *end = mem::replace(&mut first.end, WorkerEnd::Finished);
-    gather(turnstile, &mut pass, plan, rest, more);
+    mem::swap(news, &mut first.heard);
+    gather(turnstile, &mut pass, plan, rest, ends, heard);
     pass
 }

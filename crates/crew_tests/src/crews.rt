@@ -4,6 +4,7 @@ ghost use Rattle.appends_core.specs.Feeds.{IsFeed};
 
 use crate::pins::with_pin;
 use appends_core::{AppendList, is_feed};
+use causes::NumberList;
 use crew::*;
 use read_client::Reader;
 use std::alloc::Global;
@@ -98,6 +99,9 @@ fn try_plan<R: Threads + Wait + Sync, G: Gate + Sync>(
     if plan.collectors > 20 {
         return None;
     }
+    if plan.listens.as_slice().len() > 4 {
+        return None;
+    }
     let store = MemStore::new(alloc, FaultList::new(alloc));
     let pin = Reader::open(alloc, plan.shard, 0, 0);
     match run_crew(rt, alloc, store, plan, pin, 0, gate) {
@@ -122,6 +126,7 @@ fn try_crew<R: Threads + Wait + Sync>(
     let plan = Plan {
         shard: ShardId(1),
         appends: appends_of(alloc, count)?,
+        listens: NumberList::new(alloc),
         writers,
         compactors,
         collectors,
@@ -149,6 +154,73 @@ fn four_writers_finish(rt: HostRuntime) -> Result<(), Fail> {
         panic!(rt; "no crew")
     };
     assert_eq!(rt; (left.finished, left.stopped), (4, 0));
+    Ok(())
+}
+
+// The sum of the differences that a follower has heard, and up to where.
+fn sum_of(heard: &Heard) -> (i64, Frontier) {
+    let mut sum = 0i64;
+    for row in heard.rows.as_slice() {
+        sum = sum.saturating_add(row.diff);
+    }
+    (sum, heard.frontier)
+}
+
+// What the followers of a crew of two writers have heard, and how many workers have finished.
+fn try_followers<R: Threads + Wait + Sync>(
+    rt: &R,
+    alloc: Global,
+    plan: &Plan,
+) -> Result<Option<(usize, Vec<(i64, Frontier)>)>, Fail> {
+    if !is_feed(&plan.appends) {
+        return Ok(None);
+    }
+    if plan.writers > 20 {
+        return Ok(None);
+    }
+    if plan.listens.as_slice().len() > 4 {
+        return Ok(None);
+    }
+    let store = MemStore::new(alloc, FaultList::new(alloc));
+    let pin = Reader::open(alloc, plan.shard, 0, 0);
+    if plan.compactors > 0 {
+        return Ok(None);
+    }
+    if plan.collectors > 0 {
+        return Ok(None);
+    }
+    let Ok(end) = run_crew(rt, alloc, store, plan, pin, 0, &OpenGate) else {
+        return Ok(None);
+    };
+    let mut sums = Vec::new(alloc);
+    for heard in end.heard.as_slice() {
+        sums.push(sum_of(heard))?;
+    }
+    Ok(Some((left_by(&end).finished, sums)))
+}
+
+// Each of two followers hears what all appends made after its time: of the first append two rows are at time 0.
+#[test]
+fn followers_hear_all(rt: HostRuntime) -> Result<(), Fail> {
+    let alloc = rt.alloc();
+    let mut listens = NumberList::new(alloc);
+    listens.push(0)?;
+    listens.push(0)?;
+    let plan = Plan {
+        shard: ShardId(1),
+        appends: appends_of(alloc, 10)?,
+        listens,
+        writers: 2,
+        compactors: 0,
+        collectors: 0,
+        stops: StopList::new(alloc),
+    };
+    let Some((finished, sums)) = try_followers(&rt, alloc, &plan)? else {
+        panic!(rt; "no crew")
+    };
+    assert_eq!(rt; finished, 4);
+    let all = (128i64, Frontier::at(100));
+    assert_eq!(rt; sums.as_slice(), [all, all].as_slice());
     Ok(())
 }
 
@@ -247,6 +319,7 @@ fn a_pin_is_renewed(rt: HostRuntime) -> Result<(), Fail> {
     let plan = Plan {
         shard: ShardId(1),
         appends: appends_of(rt.alloc(), 10)?,
+        listens: NumberList::new(rt.alloc()),
         writers: 1,
         compactors: 1,
         collectors: 1,
@@ -267,6 +340,7 @@ fn a_pin_rests_without_collectors(rt: HostRuntime) -> Result<(), Fail> {
     let plan = Plan {
         shard: ShardId(1),
         appends: appends_of(rt.alloc(), 2)?,
+        listens: NumberList::new(rt.alloc()),
         writers: 1,
         compactors: 0,
         collectors: 0,
@@ -290,6 +364,7 @@ fn a_stopped_collector_gives_the_pin_back(rt: HostRuntime) -> Result<(), Fail> {
     let plan = Plan {
         shard: ShardId(1),
         appends: AppendList::new(rt.alloc()),
+        listens: NumberList::new(rt.alloc()),
         writers: 0,
         compactors: 0,
         collectors: 1,
@@ -351,6 +426,7 @@ fn either_of_two_writers_may_wait(rt: HostRuntime) -> Result<(), Fail> {
         let plan = Plan {
             shard: ShardId(1),
             appends: appends_of(rt.alloc(), 1)?,
+            listens: NumberList::new(rt.alloc()),
             writers: 2,
             compactors: 0,
             collectors: 0,

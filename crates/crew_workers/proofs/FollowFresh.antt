@@ -48,7 +48,7 @@ one_more client h k call r g =
     let e = entry_of client call g.outcome in
     let before = h.trail ++ g.others in
     let here : mine_back h.start (reverse (before ++ e ∷ [])) client ≡
-        answered e (reply (replay_back h.start (reverse before)) e) ∷ mine_back h.start (reverse h.trail) client =
+    answered e (reply (replay_back h.start (reverse before)) e) ∷ mine_back h.start (reverse h.trail) client =
     ap (λ (es : List Entry). mine_back h.start es client) (newest-first before e)
     ∙ own_newest client h.start e (reverse before) refl
     ∙ ap (λ (own : List Answered). answered e (reply (replay_back h.start (reverse before)) e) ∷ own) (own_same client h g.others g.of_others) in

@@ -133,7 +133,7 @@ module _ (shard : ShardId) (list : List Update) (as_of : ℕ) (rows : List Updat
       heard = k.heard;
     },
     (let sum : count_of client (k.newer ++ more) ≡ count_of client k.newer + count_of client more = count_append client k.newer more in
-    omega arith),
+        omega arith),
   )
 
   -- before fewer calls

@@ -111,7 +111,6 @@ step_more (Some other) calls now is = zero_more 0
     zero_more : (n : ℕ) → 0 ≤ n + 1
     zero_more n = omega arith
 
-
 -- ---- what an answer tells
 
 -- what a step of a listen from this frontier was asked, and answered
@@ -312,7 +311,6 @@ module _ (w : Follow) (count client : ℕ) (front now : Option History) (ready :
         answer → ⊥) → Stepped w client calls list h.start (reverse h.trail) answer
     steps h list heard legal no_open no_close =
         stepped w client calls list h.start (reverse h.trail) answer ready.sound.asked heard.1 no_open no_close ready.opened ready.asked legal
-
 
   -- ---- what an answer makes of what it has heard
 

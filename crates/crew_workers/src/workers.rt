@@ -12,9 +12,9 @@ ghost use Rattle.crew_workers.specs.Merging as merging;
 ghost use Rattle.crew_workers.specs.Pinning as pinning;
 ghost use Rattle.crew_workers.specs.Writing.{IsReady};
 
+use crate::befores::Before;
 use crate::collecting::CollectorWorker;
 use crate::ends::WorkerTurn;
-use crate::befores::Before;
 use crate::following::FollowWorker;
 use crate::merging::CompactorWorker;
 use crate::pinning::PinWorker;

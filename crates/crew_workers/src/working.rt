@@ -15,9 +15,9 @@ ghost use Rattle.crew_workers.specs.Looping.{EndShown};
 ghost use Rattle.crew_workers.specs.Pinning.{IsPinLeft, IsPinOf};
 ghost use Rattle.crew_workers.specs.Posts.{SamePass, made_before, own_calls};
 
+use crate::befores::Before;
 use crate::collecting::CollectorWorker;
 use crate::ends::{WorkerEnd, WorkerTurn};
-use crate::befores::Before;
 use crate::following::{Follow, FollowWorker};
 use crate::gates::Gate;
 use crate::heards::Heard;

@@ -9,12 +9,15 @@ use Rattle.store_core.specs.declared.entries.Entry.{Entry}
 use Rattle.std.specs.Prelude.{slice_index_or}
 use Rattle.store_core.specs.Histories.{History}
 use Rattle.read_client.specs.declared.readers.Reader.{Reader}
+use Rattle.crew_workers.specs.declared.heards.Heard.{Heard}
 use Rattle.crew_workers.specs.declared.ends.WorkerEnd.{WorkerEnd}
-use Rattle.crew.specs.Seats.{HasPin, HasWorked, NumberedFrom, PinsIdle, PinsLeft, Works, pins_of}
+use Rattle.crew.specs.Plans.{pin_of}
+use Rattle.crew.specs.Seats.{AllHeard, AreUnheard, HasPin, HasWorked, NumberedFrom, PinsIdle, PinsLeft, Works, pins_of}
+use Rattle.crew.proofs.Hearing.{all_heard}
 use Rattle.crew.proofs.CrewEnds.{all_numbered, all_placed, all_worked, crew_ran_on, ends_on, grows_by_others}
 use Rattle.crew.proofs.CrewEnds.{kept_keeps, others_none, seats_there}
 use Rattle.crew.proofs.PinSeats.{all_held, all_ready, pins_left}
-use Rattle.crew.proofs.Numbers.{all_suit, next_first, next_of, no_pin, one_pin}
+use Rattle.crew.proofs.Numbers.{all_suit, next_first, next_of, no_pin, one_pin, pin_none}
 use Rattle.crew.proofs.crews.work_together.Goals as goal
 
 pub deal-kept-requires-clause-new : goal.deal-kept-requires-clause-new
@@ -40,6 +43,7 @@ sit_all-requires-clause-ready g c κs within =
     (subst (λ (n : ℕ). NumberedFrom n c.deal-kept.new.seats) low c.deal-kept.ensures.numbers)
     (c.deal-kept.ensures.places plan 0 c.requires.places)
     (subst (PinsIdle plan front 0) (sym c.deal-kept.ensures.pins) c.requires.pins)
+    (subst AreUnheard (sym c.deal-kept.ensures.listens) c.requires.unheard)
 
 pub gather_all-pass-requires-clause-kept : goal.gather_all-pass-requires-clause-kept
 gather_all-pass-requires-clause-kept g c = kept_keeps c.args.plan.now c.args.shared.turnstile c.deal-kept.result (view c.args.pass)
@@ -92,9 +96,8 @@ returns-clause-ran g c =
 pub returns-clause-others : goal.returns-clause-others
 returns-clause-others g c = λ none.
     let first = c.requires.first in
-    let count : length c.args.seats.now ≡ c.args.plan.now.writers + c.args.plan.now.compactors + c.args.plan.now.collectors =
-    c.requires.count in
-    let few : 0 + length c.args.seats.now ≤ c.args.plan.now.writers + c.args.plan.now.compactors = omega (arith, none, count) in
+    let none_at = pin_none c.args.plan.now none in
+    let few : 0 + length c.args.seats.now ≤ pin_of c.args.plan.now = omega (arith, none_at, c.requires.count) in
     let back = c.deal-kept.ensures.back (no_pin c.args.plan.now 0 c.args.seats.now few c.requires.places) in
     grows_by_others g.S.Store.history (view c.args.pass) (view c.gather_all-pass.result) (g.S.Store.history c.close.result)
     (ap (λ (v : View _ Entry). v.gain) first) (c.gather_all-pass.ensures.pass.start ∙ sym c.requires.pass.start)
@@ -165,3 +168,20 @@ returns-clause-held g c = λ has.
     Works fs plan.shard t (slice_index_or xs i d) (slice_index_or ys i d))
     c.as_slice-appends.ensures c.sit_all.ensures.worked)
     (subst HasPin (sym c.deal-kept.ensures.pins) has))
+
+pub returns-clause-heard : goal.returns-clause-heard
+returns-clause-heard g c =
+    let plan = c.args.plan.now in
+    let appends = c.as_slice-appends.result.now in
+    let t = c.args.shared.turnstile in
+    let xs = c.deal-kept.new.seats in
+    let ys = c.sit_all.new.seats in
+    let w = view c.gather_all-pass.result in
+    let len = c.sit_all.ensures.length in
+    let works = c.sit_all.ensures.worked in
+    let worked = subst (λ (fs : List FeedAppend). AllByRecursion (HasWorked fs plan.shard t) ys) c.as_slice-appends.ensures
+    (all_worked appends plan.shard t xs ys len works).0 in
+    let placed = all_placed appends plan.shard t plan 0 xs ys len works (c.deal-kept.ensures.places plan 0 c.requires.places) in
+    subst (λ (f : Option History). AllHeard plan f 0 c.gather_all-pass.new.heard) (sym c.close.ensures.history)
+    (subst (λ (hs : List Heard). AllHeard plan (front_of g.S.Store.history w) 0 hs) (sym c.gather_all-pass.ensures.heard)
+    (all_heard plan t w c.gather_all-pass.ensures.pass.start 0 ys worked c.gather_all-pass.ensures.prefix placed))

@@ -1,8 +1,9 @@
-use Rattle.std.proofs.Common.{◌≡◌, ◌≢◌, ◌⊎◌, None}
+use Rattle.std.proofs.Common.{◌≡◌, ◌≢◌, ◌⊎◌, None, subst, sym, ◌∙◌}
 use Rattle.turnstile.specs.Passes.{view}
 use Rattle.shared_store.specs.Fronts.{front_of}
 use Rattle.crew_workers.specs.Pinning.{IsPinOf}
-use Rattle.crew.specs.Seats.{HasPin, NoPin, pins_of}
+use Rattle.crew.specs.Seats.{AreUnheard, HasPin, NoPin, pins_of}
+use Rattle.crew.proofs.Hearing.{have_heard}
 use Rattle.crew.proofs.PinSeats.{back_same, left_back, may_be, none_pin, none_second, none_then}
 use Rattle.crew.proofs.crews.work_with_pin.Goals as goal
 
@@ -35,3 +36,11 @@ returns-clause-left g c = λ some idle.
     left_back c.args.plan.now c.args.seats.now c.requires.count c.requires.places (g.S.Store.history c.work_together-store.result)
     c.args.pin c.hand_out-pin.result c.hand_in-back.result (pins_of c.work_together-store.new.seats) c.work_together-store.new.ends
     some idle c.hand_in-back.ensures.some c.hand_out-pin.ensures.pin c.work_together-store.ensures.pins
+
+pub work_together-store-requires-clause-unheard : goal.work_together-store-requires-clause-unheard
+work_together-store-requires-clause-unheard g c κs within = subst AreUnheard (sym c.hand_in-back.ensures.listens) c.requires.unheard
+
+pub returns-clause-heard : goal.returns-clause-heard
+returns-clause-heard g c =
+    have_heard c.args.plan.now (g.S.Store.history c.work_together-store.result) c.work_together-store.new.heard
+    (c.work_together-store.ensures.count ∙ c.hand_in-back.ensures.length ∙ c.requires.count) c.work_together-store.ensures.heard

@@ -18,10 +18,11 @@ returns g c =
         is_pass = c.work_with-pass.ensures.pass;
         alone = is_alone (view c.in-Some.pass) (view c.work_with-pass.result.0)
             (subst (λ (p : _). IsNew (view p)) same seated.new) c.work_with-pass.ensures.same;
-        keeps = kin_keeps (role_of c.args.seat.now.job c.args.appends.now) c.args.shard g.S.Store.history (view c.in-Some.pass)
+        keeps = kin_keeps (λ made. role_of c.args.seat.now.job c.args.appends.now made) c.args.shard g.S.Store.history (view c.in-Some.pass)
             (view c.work_with-pass.result.0)
             (subst (λ (p : _). IsNew (view p)) same seated.new) c.work_with-pass.ensures.same c.work_with-pass.ensures.keeps;
         shown = c.work_with-pass.ensures.end;
+        heard = c.work_with-pass.ensures.heard;
         pin = c.work_with-pass.ensures.pin;
       };
       share = c.work_with-pass.ensures.same.share ∙ ap (λ (p : _). (view p).share) (sym same) ∙ sym (ap share_in seated.there);
@@ -31,5 +32,6 @@ returns g c =
       worker = refl;
       stop = refl;
       job = refl;
+      as_of = refl;
       held = c.work_with-pass.ensures.held;
     }

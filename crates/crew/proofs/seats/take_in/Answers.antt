@@ -22,7 +22,7 @@ returns-clause-keeps g c =
     c.join.ensures.begins.0 c.join.ensures.begins.1 c.join.ensures.own c.join.ensures.others c.requires.keeps
     (kin_as plan g.S.Store.history (view c.in-Some.other) c.args.seat.now.job
     (subst (λ (p : _). IsAlone (view p)) same worked.alone) suits
-    (subst (λ (p : _). KinKeeps (λ n. role_of c.args.seat.now.job plan.appends) plan.shard g.S.Store.history (view p)) same worked.keeps))
+    (subst (λ (p : _). KinKeeps (λ n made. role_of c.args.seat.now.job plan.appends made) plan.shard g.S.Store.history (view p)) same worked.keeps))
 
 pub returns-clause-own : goal.returns-clause-own
 returns-clause-own g c = shows_own (view c.args.pass.now) (view c.in-Some.other) (view c.join.new.pass)
