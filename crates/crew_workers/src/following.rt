@@ -280,9 +280,10 @@ pub struct FollowWorker<'a, B: Before> {
 impl<'a, B: Before> FollowWorker<'a, B> {
     /// What it has heard.
     pub fn heard(self) -> Heard
-        ensures rows { result.rows ≡ self.follow.rows }
-        ensures frontier { result.frontier ≡ self.follow.frontier }
+        ensures rows { result.rows ≡ self.entry.follow.rows }
+        ensures frontier { result.frontier ≡ self.entry.follow.frontier }
     {
+        let FollowWorker { follow, before: _ } = self;
         let Follow {
             shard: _,
             as_of: _,
@@ -293,7 +294,7 @@ impl<'a, B: Before> FollowWorker<'a, B> {
             frontier,
             late: _,
             done: _,
-        } = self.follow;
+        } = follow;
         Heard { rows, frontier }
     }
 }
