@@ -14,7 +14,7 @@ use Rattle.store_core.specs.Stores.{Stored}
 use Rattle.store_core.specs.Newest.{mine_back, replay_back}
 use Rattle.store_core.proofs.NewestLaws.{newest-first}
 use Rattle.state_core.specs.declared.kinds.Kind.TheVariants.{Reader as AsReader}
-use Rattle.state_core.specs.VersionReading.{most}
+use Rattle.update_core.specs.Limits.{most}
 use Rattle.history_core.specs.declared.asked.Asked.{Asked}
 use Rattle.history_core.specs.declared.asked.Asked.TheVariants as asks
 use Rattle.history_core.specs.declared.read_answers.ReadAnswer.{ReadAnswer}

@@ -80,14 +80,15 @@ place_in : (P : Placed → Type 0) (shard : ShardId) (client n : ℕ) (es : List
 place_in P shard client zero es h = absurd h
 place_in P shard client (suc n) [] h = absurd h
 place_in P shard client (suc n) (e ∷ es) h = elim (bool_cases (e.client == client)) [
-  | inl t ↦ own (rw t at h)
+  | inl t ↦ own (λ k. place_in P shard client n es k) (rw t at h)
   | inr t ↦ wider P e es (place_in P shard client (suc n) es (rw t at h))
 ]
   where
-    own : AtLastScan shard P (placed e es ∷ places client n es) → PlaceIn P (e ∷ es)
-    own h = elim h [
+    own : (AtLastScan shard P (places client n es) → PlaceIn P es) → AtLastScan shard P (placed e es ∷ places client n es) →
+        PlaceIn P (e ∷ es)
+    own again h = elim h [
       | inl p ↦ record { first = []; entry = e; before = es; split = refl; holds = p.1 }
-      | inr p ↦ wider P e es (place_in P shard client n es p.1)
+      | inr p ↦ wider P e es (again p.1)
     ]
 
 place_after : (P : Placed → Type 0) (shard : ShardId) (client n : ℕ) (newer older : List Entry) → n ≤ count_of client newer →
@@ -95,22 +96,23 @@ place_after : (P : Placed → Type 0) (shard : ShardId) (client n : ℕ) (newer 
 place_after P shard client zero newer older le h = absurd h
 place_after P shard client (suc n) [] older le h = absurd (omega arith)
 place_after P shard client (suc n) (e ∷ newer) older le h = elim (bool_cases (e.client == client)) [
-  | inl t ↦ own (rw t at le) (rw t at h)
+  | inl t ↦ own (λ fewer k. place_after P shard client n newer older fewer k) (rw t at le) (rw t at h)
   | inr t ↦ more (place_after P shard client (suc n) newer older (rw t at le) (rw t at h))
 ]
   where
     more : PlaceAfter P (newer ++ older) older → PlaceAfter P (e ∷ (newer ++ older)) older
     more k = record { at = wider P e (newer ++ older) k.at; rest = k.rest; after = k.after }
 
-    own : suc n ≤ suc (count_of client newer) → AtLastScan shard P (placed e (newer ++ older) ∷ places client n (newer ++ older)) →
+    own : (n ≤ count_of client newer → AtLastScan shard P (places client n (newer ++ older)) → PlaceAfter P (newer ++ older) older) →
+        suc n ≤ suc (count_of client newer) → AtLastScan shard P (placed e (newer ++ older) ∷ places client n (newer ++ older)) →
         PlaceAfter P (e ∷ (newer ++ older)) older
-    own le h = elim h [
+    own again le h = elim h [
       | inl p ↦ record {
         at = record { first = []; entry = e; before = newer ++ older; split = refl; holds = p.1 };
         rest = newer;
         after = refl;
       }
-      | inr p ↦ more (place_after P shard client n newer older (omega arith) p.1)
+      | inr p ↦ more (again (omega arith) p.1)
     ]
 
 -- ---- a step
@@ -163,7 +165,7 @@ module _ (shard : ShardId) (list : List Update) (as_of : ℕ) (rows : List Updat
         ∙ append_assoc (reverse k.before) (k.entry ∷ []) (reverse k.first) in
         let lawful : Lawful mid = prefix_lawful mid (k.entry ∷ reverse k.first)
         (subst (λ (es : List Entry). Lawful (of_entries h.start es)) whole l) in
-        let (n, s, last, has, answer) = k.holds in
+        let (n, s, last, both) = k.holds in
         inr (record {
           older = reverse k.before;
           newer = k.entry ∷ reverse k.first;
@@ -172,7 +174,7 @@ module _ (shard : ShardId) (list : List Update) (as_of : ℕ) (rows : List Updat
               (subst (λ (q : Stored). LastIs q shard n s)
               (ap (replay_back h.start) (sym back) ∙ sym (replay-newest h.start (reverse k.before))) last) more to
               (subst (λ (es : List Entry). listen_answer (collection_in (accepted shard list h.start es) s) frontier ≡ step more to)
-              (sym back) answer);
+              (sym back) both.1);
         })
 
     pub hears_step : HeardBefore client calls shard list as_of rows frontier h →
