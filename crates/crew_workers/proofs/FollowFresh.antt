@@ -68,7 +68,7 @@ opening_more (Some other) calls now is = zero_more 0
     zero_more : (n : ℕ) → 0 ≤ n + 1
     zero_more n = omega arith
 
-no_and : (o : Option ℕ) → IsSomeAnd o (λ m. ⊥) → ⊥
+pub no_and : (o : Option ℕ) → IsSomeAnd o (λ m. ⊥) → ⊥
 no_and None l = l
 no_and (Some m) l = l
 

@@ -66,7 +66,7 @@ record PlaceAfter (P : Placed → Type 0) (es older : List Entry) : Type 0 where
   pub rest : List Entry
   pub after : at.before ≡ rest ++ older
 
-wider : (P : Placed → Type 0) (e : Entry) (es : List Entry) → PlaceIn P es → PlaceIn P (e ∷ es)
+abbrev wider : (P : Placed → Type 0) (e : Entry) (es : List Entry) → PlaceIn P es → PlaceIn P (e ∷ es)
 wider P e es k = record {
   first = e ∷ k.first;
   entry = k.entry;

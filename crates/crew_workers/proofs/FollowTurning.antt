@@ -1,7 +1,7 @@
 -- What a turn of a worker that follows comes to.
 use Rattle.std.proofs.Common.{◌≡◌, ℕ, ◌+◌, ◌≤◌, ◌<◌, min, true, false, Option, Some, None, List, [], ◌++◌, inl, inr, refl, sym, ap, subst, ◌∙◌}
 use Rattle.std.proofs.Common.{length, arith}
-use Rattle.std.specs.Prelude.{IfSome, IsSome, IsSomeAnd, reverse}
+use Rattle.std.specs.Prelude.{⊤, IfSome, IsSome, IsSomeAnd, reverse}
 use Rattle.update_core.specs.declared.updates.Update.{Update}
 use Rattle.update_core.specs.Collections.{step}
 use Rattle.update_core.specs.Frontiers.{after}
@@ -80,7 +80,7 @@ pub heard_grown : (P : Stored → List Entry → Entry → Type 0) (shard at : S
     WhereLawful shard now (λ h list. HeardAs shard list as_of rows frontier h)
 heard_grown P shard at client None now k as_of rows frontier p =
     subst (λ (f : Option History). WhereLawful shard f (λ h list. HeardAs shard list as_of rows frontier h)) (sym k) tt
-heard_grown P shard at client (Some h) now (more, is, keeps) as_of rows frontier p =
+heard_grown P shard at client (Some h) now (more, is, kept_on) as_of rows frontier p =
     subst (λ (f : Option History). WhereLawful shard f (λ h list. HeardAs shard list as_of rows frontier h)) (sym is)
     (λ list st l. stays_law shard list as_of rows frontier h more (p list st (prefix_lawful h more l)))
 
@@ -455,11 +455,11 @@ module _ (count client : ℕ) (front now : Option History) (w : Follow) (ready :
       carries new poll turn misses misses_now k busy fault (comes_means w.shard count client now v turn same comes)
 
   -- what it comes to after a poll that could still be counted
-  pub went : (new : Reader) (poll : Poll ReadAnswer) (v : Follow) (turn : WorkerTurn) (calls : ℕ) → calls ≡ new.trying.calls →
-      calls < most → Polled machine client front now w.reader new poll → LegalWhere machine client now w.reader new poll →
+  pub went : (new : Reader) (poll : Poll ReadAnswer) (v : Follow) (turn : WorkerTurn) (made : ℕ) → made ≡ new.trying.calls →
+      made < most → Polled machine client front now w.reader new poll → LegalWhere machine client now w.reader new poll →
       FollowsWhere client now new → ((count2 client2 : ℕ) (front2 : Option History) → FollowsWhere client2 front2 new →
       IsTold count2 client2 front2 (with_reader w new) poll → Comes count2 client2 front2 v turn) → Comes count client now v turn
-  went new poll v turn calls counted few polled legal follows comes =
+  went new poll v turn made counted few polled legal follows comes =
       comes count client now follows
       (told_of w count client front now ready new poll (subst (λ (n : ℕ). n < most) counted few) polled legal (keeps_role new poll polled))
 

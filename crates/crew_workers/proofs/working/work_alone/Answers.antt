@@ -17,17 +17,17 @@ returns-in-Pin-clause-keeps g c =
     (keeps_as_pin c.args.task.shard (view c.args.pass).number before now c.collect_alone-in-Pin.ensures.keeps)
 
 pub returns-in-Write-clause-heard : goal.returns-in-Write-clause-heard
-returns-in-Write-clause-heard g c = nothing_heard c.args.task.shard c.args.task.as_of (front_of g.S.Store.history _) c.args.heard.now
+returns-in-Write-clause-heard g c = nothing_heard c.args.task.shard c.args.task.as_of (front_of g.S.Store.history (view c.write_alone.result.0)) c.args.heard.now
     c.requires.none.0 c.requires.none.1
 
 pub returns-in-Merge-clause-heard : goal.returns-in-Merge-clause-heard
-returns-in-Merge-clause-heard g c = nothing_heard c.args.task.shard c.args.task.as_of (front_of g.S.Store.history _) c.args.heard.now
+returns-in-Merge-clause-heard g c = nothing_heard c.args.task.shard c.args.task.as_of (front_of g.S.Store.history (view c.merge_alone.result.0)) c.args.heard.now
     c.requires.none.0 c.requires.none.1
 
 pub returns-in-Collect-clause-heard : goal.returns-in-Collect-clause-heard
-returns-in-Collect-clause-heard g c = nothing_heard c.args.task.shard c.args.task.as_of (front_of g.S.Store.history _) c.args.heard.now
+returns-in-Collect-clause-heard g c = nothing_heard c.args.task.shard c.args.task.as_of (front_of g.S.Store.history (view c.collect_alone.result.0)) c.args.heard.now
     c.requires.none.0 c.requires.none.1
 
 pub returns-in-Pin-clause-heard : goal.returns-in-Pin-clause-heard
-returns-in-Pin-clause-heard g c = nothing_heard c.args.task.shard c.args.task.as_of (front_of g.S.Store.history _) c.args.heard.now
+returns-in-Pin-clause-heard g c = nothing_heard c.args.task.shard c.args.task.as_of (front_of g.S.Store.history (view c.collect_alone-in-Pin.result.0)) c.args.heard.now
     c.requires.none.0 c.requires.none.1

@@ -53,7 +53,3 @@ returns-in-Closed-clause-comes c = λ count client front follows told.
       version = c.in-Closed.version;
       told = subst (IsToldAt count client front c.args.self.now) c.in-Closed.is told;
     })
-
-pub returns-in_default-clause-comes : goal.returns-in_default-clause-comes
-returns-in_default-clause-comes c = λ count client front follows told.
-    c.reopen.ensures.comes count client front follows told.fresh told.heard told.out
