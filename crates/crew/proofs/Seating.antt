@@ -55,6 +55,11 @@ is_alone v w new same n in_kin =
     (subst (λ (m : ℕ). 0 < m) (same.kin n) in_kin) in
     same.number ∙ only_number n v.number [] mine
 
+-- of a pass that has gone on its client had made as many before
+pub made_same : {S : Type 0} (history : S → Option History) (v w : View S Entry) → SamePass v w → made_before history w ≡ made_before history v
+made_same history v w same = ap (λ (o : Option History). made_in o w.number) (opened_same history v w same)
+    ∙ ap (λ (n : ℕ). made_in (opened history v) n) same.number
+
 pub kin_keeps : {S : Type 0} (roles : ℕ → Role) (shard : ShardId) (history : S → Option History) (v w : View S Entry) →
     IsNew v → SamePass v w →
     KeepsOn (IsWorkersEntry (roles (made_before history v)) shard) shard v.number (front_of history v) (front_of history w) →

@@ -1,9 +1,10 @@
-use Rattle.std.proofs.Common.{◌≡◌, Some, refl, sym, ap, subst, ◌∙◌}
+use Rattle.std.proofs.Common.{◌≡◌, ℕ, Some, refl, sym, ap, subst, ◌∙◌}
 use Rattle.std.specs.Prelude.{IfSome}
 use Rattle.turnstile.specs.Passes.{view}
+use Rattle.crew_workers.specs.Looping.{EndShown}
 use Rattle.crew.specs.Seats.{IsNew, share_in}
 use Rattle.crew_core.specs.Working.{role_of}
-use Rattle.crew.proofs.Seating.{is_alone, kin_keeps, one_some}
+use Rattle.crew.proofs.Seating.{is_alone, kin_keeps, made_same, one_some}
 use Rattle.crew.proofs.seats.sit.Goals as goal
 
 pub returns : goal.returns
@@ -21,7 +22,10 @@ returns g c =
         keeps = kin_keeps (λ made. role_of c.args.seat.now.job c.args.appends.now made) c.args.shard g.S.Store.history (view c.in-Some.pass)
             (view c.work_with-pass.result.0)
             (subst (λ (p : _). IsNew (view p)) same seated.new) c.work_with-pass.ensures.same c.work_with-pass.ensures.keeps;
-        shown = c.work_with-pass.ensures.end;
+        shown = subst (λ (n : ℕ). EndShown g.S.Store.history (role_of c.args.seat.now.job c.args.appends.now n) c.args.shard c.args.seat.now.stop
+            (view c.work_with-pass.result.0) c.work_with-pass.result.1)
+            (sym (made_same g.S.Store.history (view c.in-Some.pass) (view c.work_with-pass.result.0) c.work_with-pass.ensures.same))
+            c.work_with-pass.ensures.end;
         heard = c.work_with-pass.ensures.heard;
         pin = c.work_with-pass.ensures.pin;
       };
