@@ -8,6 +8,7 @@ use Rattle.store_core.specs.declared.replies.Reply.{Reply}
 use Rattle.state_core.specs.declared.refusals.Refusal.{Refusal}
 use Rattle.state_core.specs.declared.refusals.Refusal.TheVariants as refusals
 use Rattle.state_core.specs.declared.transitions.Transition.{Transition}
+use Rattle.state_core.specs.declared.transitions.Transition.TheVariants.{Init}
 use Rattle.history_core.specs.declared.asked.Asked.{Asked}
 use Rattle.history_core.specs.declared.asked.Asked.TheVariants as asks
 use Rattle.history_core.specs.declared.merge_answers.MergeAnswer.{MergeAnswer}
@@ -16,6 +17,7 @@ use Rattle.load_core.specs.declared.polls.Poll.TheVariants as polls
 use Rattle.load_core.specs.declared.tries.Tried.{Tried}
 use Rattle.load_core.specs.declared.tryings.Trying.{Trying}
 use Rattle.load_core.specs.Effects.{CommitsNone, CommitsStep, IsShown}
+use Rattle.load_core.specs.Runs.{OnlyCarries}
 use Rattle.load_core.specs.Trying as trying
 use Rattle.change_core.specs.declared.outcomes.Outcome.{Outcome}
 use Rattle.change_core.specs.declared.outcomes.Outcome.TheVariants as outcomes
@@ -23,6 +25,7 @@ use Rattle.change_core.specs.Changes.{outcome}
 use Rattle.change_core.specs.Legality.{ChangeEffect}
 use Rattle.change_core.proofs.Coming.{change_effect}
 use Rattle.read_machine.specs.Readings as readings
+use Rattle.read_machine.proofs.Replied.{of_reads, reads_of}
 use Rattle.token_machine.specs.declared.storeds.Stored.{Stored as Came}
 use Rattle.token_machine.specs.declared.storeds.Stored.TheVariants as storeds
 use Rattle.token_machine.specs.declared.storings.Storing.{Storing}
@@ -30,7 +33,7 @@ use Rattle.token_machine.specs.Legality.{StoredEffect}
 use Rattle.token_machine.specs.Outcomes.{stored}
 use Rattle.token_machine.specs.Storings as storing
 use Rattle.token_machine.proofs.Effects.{storing_effect}
-use Rattle.token_machine.proofs.Ways.{SetWay, Way, call_false, fails, goes, set, set_way, stored_none, try, way}
+use Rattle.token_machine.proofs.Ways.{SetWay, Way, call_false, carries, fails, goes, set, set_way, stored_none, try, way}
 use Rattle.merge_client.specs.declared.compactors.Compactor.{Compactor}
 use Rattle.merge_client.specs.declared.dues.Due.{Due}
 use Rattle.merge_client.specs.declared.founds.Found.{Found}
@@ -38,6 +41,7 @@ use Rattle.merge_client.specs.declared.founds.Found.TheVariants as founds
 use Rattle.merge_client.specs.Finding.{finding}
 use Rattle.merge_client.specs.Merging.{IsReady, Moves, MovesBy, call_by, call_of, change_poll, gone_answer}
 use Rattle.merge_client.specs.Merging.{in_answer, merge_poll, merge_refused, misfit, noted, own_member, read_poll, shard_of, told_fit, verdict}
+use Rattle.merge_client.specs.Machining.{CarriesKeepers}
 use Rattle.merge_client.specs.Polling.{Effect}
 use Rattle.merge_client.proofs.Asking.{read_keeps}
 
@@ -149,3 +153,12 @@ effect_of old new call reply poll sound call_is moves = go old.reading.asked ref
             Effect (shard_of old) call reply (read_poll (told_fit o p))
         told None p h = h
         told (Some key) p h = tt
+
+-- its call carries a compactor's transition
+pub carries_of : (old : Compactor) (call : Call) → IsReady old → call_of old ≡ Some call → CarriesKeepers (shard_of old) call
+carries_of old call ready call_is = go old.reading.asked call_is
+  where
+    go : (o : Option Due) → call_by old o ≡ Some call → CarriesKeepers (shard_of old) call
+    go None is = (old.storing.trying.step, ready.sound.keepers, carries old.storing call ready.sound.storing is)
+    go (Some q) is = (Init, tt, of_reads (OnlyCarries (shard_of old) Init) old.reading.course.loader.shard call (λ from. tt) (λ key. tt)
+        (reads_of finding old.reading.course call is))

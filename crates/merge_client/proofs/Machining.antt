@@ -46,7 +46,7 @@ use Rattle.merge_client.specs.Merging.{left_fit, misfit, noted, reading_on, shar
 use Rattle.merge_client.specs.Polling.{CostOver, OverBy}
 use Rattle.merge_client.proofs.Asking.{read_keeps}
 use Rattle.merge_client.proofs.Costs.{cost_ready, next_prepared}
-use Rattle.merge_client.proofs.Effects.{effect_of}
+use Rattle.merge_client.proofs.Effects.{carries_of, effect_of}
 use Rattle.merge_client.proofs.Following.{follows_past, follows_spared}
 use Rattle.merge_client.proofs.Legality.{legal_step}
 use Rattle.merge_client.proofs.Counts.{counts_gained, counts_past}
@@ -265,7 +265,10 @@ keeps = record {
   fault_failed = λ c new r ready m. moved_fault c new r ready m.0;
   more_answered = λ c new r ready m. moved_more c new r m.0;
   counted = counted_more;
-  effect = λ c new call r poll ready is call_is m. effect_of c new call r poll ready call_is m.0;
+  effect = λ c new call r poll ready is call_is m. record {
+    carries = carries_of c call ready call_is;
+    effect = effect_of c new call r poll ready call_is m.0;
+  };
   allowed = allowed;
   follows = λ client c new call poll list start e others es a k m.
       let call = a.call_is ∙ ap (λ (q : Call). Some q) (sym k.call_is) in
@@ -299,7 +302,7 @@ keeps = record {
 
 pub ending : Ending machine
 ending = record {
-  more_begins = λ k call r did. did;
-  spent_shown = λ k call r did. did.1;
+  more_begins = λ k call r did. did.effect;
+  spent_shown = λ k call r did. did.effect.1;
   few = λ client c start es list is sound f low at failed foreign. few client c start es is sound f.follows (at low) failed foreign;
 }

@@ -31,6 +31,7 @@ noted_ready c h = record {
     lent = lent c.reading.asked h.sound.lent;
     got = got c.pair h.sound.got;
     token = h.sound.token;
+    keepers = h.sound.keepers;
     seen = h.sound.seen;
   };
   drafted = h.drafted;

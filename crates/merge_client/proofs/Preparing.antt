@@ -54,7 +54,7 @@ use Rattle.merge_client.specs.declared.pairs.Pair.{Pair}
 use Rattle.merge_client.specs.Following.{Follows, FollowsAsked, FollowsDraft, FollowsGot, FollowsMerge, IsPairOf}
 use Rattle.merge_client.specs.Following.{Tries, WasTried}
 use Rattle.merge_client.specs.Machining.{kept}
-use Rattle.merge_client.specs.Merging.{Prepares, PreparesBy, PreparesPair, own_member, owner, shard_of}
+use Rattle.merge_client.specs.Merging.{IsKeepers, IsSound, Prepares, PreparesBy, PreparesPair, own_member, owner, shard_of}
 use Rattle.merge_client.specs.Polling.{CostAt, CostBy, base_of}
 use Rattle.merge_client.proofs.Following.{asked_on}
 use Rattle.merge_client.proofs.DuePairs.{follows_there, found_so, no_refusal}
@@ -115,6 +115,22 @@ prepares_reading old new h = by (how old new h)
     by (reads q is e) = ap (λ (c : Compactor). c.reading) e
     by (tries s none is p e) = ap (λ (c : Compactor). c.reading) e
     by (drafts p d s none is draft q e) = ap (λ (c : Compactor). c.reading) e
+
+-- what is tried is a compactor's
+pub prepares_keepers : (old new : Compactor) → IsSound old → Prepares old new → IsKeepers new.storing.trying.step
+prepares_keepers old new sound h = by (how old new h)
+  where
+    of_storing : (from s : Storing) → storing.Prepares from s → IsKeepers from.trying.step → IsKeepers s.trying.step
+    of_storing from s p k = subst IsKeepers (sym (ap (λ (z : Storing). z.trying.step) (prepares_same from s p))) k
+
+    now : (s : Storing) → new ≡ record old { storing = s; pair = None } → IsKeepers s.trying.step → IsKeepers new.storing.trying.step
+    now s e k = subst (λ (c : Compactor). IsKeepers c.storing.trying.step) (sym e) k
+
+    by : How old new → IsKeepers new.storing.trying.step
+    by (reads q is e) = subst (λ (c : Compactor). IsKeepers c.storing.trying.step) (sym e) sound.keepers
+    by (tries s none is p e) = now s e (of_storing old.storing s p sound.keepers)
+    by (drafts p d s none is draft q e) =
+        now s e (of_storing (resumed old.storing d.step d.setting) s q (subst IsKeepers (sym draft.step_is) tt))
 
 -- ---- calls that were Scans and Gets
 

@@ -26,14 +26,14 @@ use Rattle.read_machine.proofs.Sound.{Ends}
 use Rattle.read_machine.proofs.Ways.{Stays}
 use Rattle.token_machine.specs.declared.storings.Storing.{Storing}
 use Rattle.token_machine.specs.Storings as storing
-use Rattle.token_machine.proofs.Ways.{IsEnding, still_seen, tried_way}
+use Rattle.token_machine.proofs.Ways.{IsEnding, same, still_seen, tried_way}
 use Rattle.merge_client.specs.declared.compactors.Compactor.{Compactor}
 use Rattle.merge_client.specs.declared.dues.Due.{Due}
 use Rattle.merge_client.specs.declared.founds.Found.{Found}
 use Rattle.merge_client.specs.declared.founds.Found.TheVariants as founds
 use Rattle.merge_client.specs.declared.pairs.Pair.{Pair}
 use Rattle.merge_client.specs.Finding.{finding}
-use Rattle.merge_client.specs.Merging.{IsGot, IsIdle, IsLent, IsReady, IsSound, Moves, MovesAfterTry, MovesBy, ReadsTo, after_poll, left_fit, member_after, misfit, noted, read_poll, reading_on, spoilt, stopped, taken_back, told_fit, verdict}
+use Rattle.merge_client.specs.Merging.{IsGot, IsIdle, IsKeepers, IsLent, IsReady, IsSound, Moves, MovesAfterTry, MovesBy, ReadsTo, after_poll, left_fit, member_after, misfit, noted, read_poll, reading_on, spoilt, stopped, taken_back, told_fit, verdict}
 use Rattle.merge_client.proofs.Noted.{MovesFit, noted_ready}
 use Rattle.merge_client.proofs.Light.{read_light}
 
@@ -66,9 +66,9 @@ if_seen (Some member) P Q f h = f h
 -- where nothing is read and no pair is got, what a poll leaves is sound
 rest_sound : (c : Compactor) (poll : Poll MergeAnswer) → storing.IsSound c.storing → readings.IsSound finding c.reading →
     c.reading.asked ≡ None →
-    c.pair ≡ None → c.token ≤ most → IfSome c.member (λ m. IsSome c.storing.trying.loader.cached) →
+    c.pair ≡ None → c.token ≤ most → IsKeepers c.storing.trying.step → IfSome c.member (λ m. IsSome c.storing.trying.loader.cached) →
     ((answer : MergeAnswer) → poll ≡ polls.Done answer → IsSome c.storing.trying.loader.cached) → IsSound (after_poll c poll)
-rest_sound c poll s g unread none token seen known = go poll refl
+rest_sound c poll s g unread none token keepers seen known = go poll refl
   where
     at : (asked : Option Asked) (member : Option ℕ) → IfSome member (λ m. IsSome c.storing.trying.loader.cached) →
         IsSound (record c { asked = asked; member = member })
@@ -78,6 +78,7 @@ rest_sound c poll s g unread none token seen known = go poll refl
       lent = subst (λ (o : Option Due). IfSome o (λ q. IsLent (record c { asked = asked; member = member }))) (sym unread) tt;
       got = subst (λ (o : Option Pair). IfSome o (IsGot (record c { asked = asked; member = member }))) (sym none) tt;
       token = token;
+      keepers = keepers;
       seen = λ h. has;
     }
 
@@ -186,6 +187,7 @@ try_sound : (old new : Compactor) (reply : Reply) (poll : Poll MergeAnswer) → 
 try_sound old new reply poll ready sound unread (s, tried, asked, moves, asked_is, poll_is, new_is) =
     subst IsSound (sym new_is) (rest_sound (record old { storing = s }) poll s_sound ready.sound.reading unread
     ready.drafted ready.sound.token
+    (subst IsKeepers (sym (same old.storing s reply tried moves).step) ready.sound.keepers)
     (if_seen old.member (IsSome old.storing.trying.loader.cached) (IsSome s.trying.loader.cached) (still_seen old.storing s
     reply tried moves)
     (ready.sound.seen unread)) known)
@@ -229,6 +231,7 @@ on_sound old q r ready ask sound g asked shard =
       });
       got = subst (λ (o : Option Pair). IfSome o (IsGot (reading_on old r))) (sym ready.drafted) tt;
       token = ready.sound.token;
+      keepers = ready.sound.keepers;
       seen = λ none. absurd (let bad : Some q ≡ None = sym asked ∙ none in cc);
     }
 
@@ -274,11 +277,12 @@ read_sound old new q reply poll ready sound g ask (r, read, moves, (poll_is, new
         storing.IsSound (taken_back (reading_on old r) p).storing → readings.IsSound finding (taken_back (reading_on old r)
         p).reading →
         (taken_back (reading_on old r) p).reading.asked ≡ r.asked → (taken_back (reading_on old r) p).token ≡ old.token →
+        IsKeepers (taken_back (reading_on old r) p).storing.trying.step →
         (taken_back (reading_on old r) p).storing.trying.loader.cached ≡ r.course.loader.cached → IsSound (at p)
-    over p e ends none s_p g_p asked token cached =
+    over p e ends none s_p g_p asked token keepers cached =
         let has : IsSome (taken_back (reading_on old r) p).storing.trying.loader.cached = subst IsSome (sym cached) some in
         rest_sound (taken_back (reading_on old r) p) (read_poll p) s_p g_p (asked ∙ none_at p e ends) none
-        (subst (λ (n : ℕ). n ≤ most) (sym token) ready.sound.token)
+        (subst (λ (n : ℕ). n ≤ most) (sym token) ready.sound.token) keepers
         (if_any (taken_back (reading_on old r) p).member (IsSome (taken_back (reading_on old r)
         p).storing.trying.loader.cached) has) (λ answer h. has)
 
@@ -297,6 +301,7 @@ read_sound old new q reply poll ready sound g ask (r, read, moves, (poll_is, new
         unread = unread;
       };
       token = ready.sound.token;
+      keepers = ready.sound.keepers;
       seen = λ h. if_any old.member (IsSome r.course.loader.cached) some;
     }
       where
@@ -313,15 +318,15 @@ read_sound old new q reply poll ready sound g ask (r, read, moves, (poll_is, new
     by polls.Busy e = goes polls.Busy e tt (s_at polls.Busy e) (g_at polls.Busy e)
     by polls.More e = goes polls.More e tt (s_at polls.More e) (g_at polls.More e)
     by polls.Fault e = goes polls.Fault e tt (s_at polls.Fault e) (g_at polls.Fault e)
-    by polls.Spent e = over polls.Spent e tt ready.drafted (s_at polls.Spent e) (g_at polls.Spent e) refl refl refl
+    by polls.Spent e = over polls.Spent e tt ready.drafted (s_at polls.Spent e) (g_at polls.Spent e) refl refl ready.sound.keepers refl
     by (polls.Damaged damage) e = over (polls.Damaged damage) e tt ready.drafted (s_at (polls.Damaged damage) e) (g_at
-        (polls.Damaged damage) e) refl refl refl
+        (polls.Damaged damage) e) refl refl ready.sound.keepers refl
     by (polls.Done (founds.Nothing version)) e =
         over (polls.Done (founds.Nothing version)) e tt refl (s_at (polls.Done (founds.Nothing version)) e) (g_at
-        (polls.Done (founds.Nothing version)) e) refl refl refl
+        (polls.Done (founds.Nothing version)) e) refl refl ready.sound.keepers refl
     by (polls.Done (founds.Gone version)) e =
         over (polls.Done (founds.Gone version)) e tt refl (s_at (polls.Done (founds.Gone version)) e) (g_at (polls.Done
-        (founds.Gone version)) e) refl refl refl
+        (founds.Gone version)) e) refl refl ready.sound.keepers refl
     by (polls.Done (founds.Due p)) e = due p e
 
 -- a part doesn't fit
@@ -332,7 +337,7 @@ unfit_sound : (old new : Compactor) (q : Due) (r : Reading Due) (reply : Reply) 
     IsReady old → storing.IsSound new.storing → readings.IsSound finding new.reading → old.reading.asked ≡ Some q →
     readings.Moves finding old.reading reply r read → (key : PartKey) → ReadsTo (noted old) (stopped r) (spoilt key) new poll → IsSound new
 unfit_sound old new q r reply poll read ready s g ask moves key (poll_is, new_is) = subst IsSound (sym now)
-    (rest_sound (unfit old r key) (polls.Damaged (damages.Weight key)) s_here g_here refl ready.drafted ready.sound.token (if_any (unfit old r key).member
+    (rest_sound (unfit old r key) (polls.Damaged (damages.Weight key)) s_here g_here refl ready.drafted ready.sound.token ready.sound.keepers (if_any (unfit old r key).member
     (IsSome (unfit old r key).storing.trying.loader.cached) known) (λ answer h. known))
   where
     now : new ≡ after_poll (unfit old r key) (polls.Damaged (damages.Weight key))

@@ -2,20 +2,23 @@
 use Rattle.std.specs.Prelude.{◌≡◌, ℕ, Option, None, IfSome, List}
 use Rattle.update_core.specs.declared.updates.Update.{Update}
 use Rattle.store_core.specs.declared.shards.ShardId.{ShardId}
+use Rattle.store_core.specs.declared.calls.Call.{Call}
 use Rattle.store_core.specs.declared.replies.Reply.{Reply}
 use Rattle.store_core.specs.declared.entries.Entry.{Entry}
 use Rattle.store_core.specs.Stores.{Stored}
+use Rattle.state_core.specs.declared.transitions.Transition.{Transition}
 use Rattle.history_core.specs.Costs.{change_base}
 use Rattle.history_core.specs.declared.asked.Asked.{Asked}
 use Rattle.history_core.specs.declared.merge_answers.MergeAnswer.{MergeAnswer}
 use Rattle.history_core.specs.Legal.{Command}
 use Rattle.history_core.specs.Upkeep.{LegalMergeBack}
 use Rattle.load_core.specs.declared.polls.Poll.{Poll}
+use Rattle.load_core.specs.Runs.{OnlyCarries}
 use Rattle.machine_core.specs.Machines.{Words}
 use Rattle.merge_client.specs.declared.compactors.Compactor.{Compactor}
 use Rattle.merge_client.specs.Following.{FollowsAll, Spares}
 use Rattle.merge_client.specs.Merging as merging
-use Rattle.merge_client.specs.Merging.{IsOpen, IsReady, IsSound, Prepares, Wants, call_of, member_after, shard_of}
+use Rattle.merge_client.specs.Merging.{IsKeepers, IsOpen, IsReady, IsSound, Prepares, Wants, call_of, member_after, shard_of}
 use Rattle.merge_client.specs.Polling.{CostAt, CostOver, Effect}
 
 -- what stays of a compactor while a command goes on
@@ -55,6 +58,15 @@ command_in client k asked calls = record {
 abbrev pub Legal : ℕ → Kept → ℕ → MergeAnswer → Stored → List Entry → List Update → Type 0
 Legal client k calls answer start es list = IfSome k.asked (λ asked. LegalMergeBack start es (command_in client k asked calls) answer)
 
+-- a Cas on a version carries a transition of a compactor
+abbrev pub CarriesKeepers : ShardId → Call → Type 0
+CarriesKeepers shard call = (step : Transition) × IsKeepers step × OnlyCarries shard step call
+
+-- what one call has done: a Cas carries such a transition, and it has committed no more than this
+pub record Did (k : Kept) (call : Call) (reply : Reply) (poll : Poll MergeAnswer) : Type 0 where
+  pub carries : CarriesKeepers k.shard call
+  pub effect : Effect k.shard call reply poll
+
 -- a compactor, as a machine
 abbrev pub machine : Words Compactor MergeAnswer
 machine = record {
@@ -70,7 +82,7 @@ machine = record {
   Moves = Moves;
   Wants = Wants;
   Ends = Ended;
-  Effect = λ k. Effect k.shard;
+  Effect = Did;
   Follows = FollowsAll;
   Spares = Spares;
   Legal = Legal;

@@ -1,5 +1,5 @@
 -- A compactor: what it does next, and what a reply makes of it.
-use Rattle.std.specs.Prelude.{◌≡◌, ℕ, ◌≤◌, ◌^◌, Option, Some, None, IsSome, IfSome, unwrap_or, [], length}
+use Rattle.std.specs.Prelude.{⊤, ◌≡◌, ℕ, ◌≤◌, ◌^◌, Option, Some, None, IsSome, IfSome, unwrap_or, [], length}
 use Rattle.update_core.specs.Updates.{weight_of}
 use Rattle.store_core.specs.declared.shards.ShardId.{ShardId}
 use Rattle.store_core.specs.declared.part_keys.PartKey.{PartKey}
@@ -8,7 +8,8 @@ use Rattle.store_core.specs.declared.replies.Reply.{Reply}
 use Rattle.state_core.specs.declared.kinds.Kind.TheVariants.{Keeper}
 use Rattle.state_core.specs.declared.refusals.Refusal.{Refusal}
 use Rattle.state_core.specs.declared.refusals.Refusal.TheVariants as refusals
-use Rattle.state_core.specs.declared.transitions.Transition.TheVariants.{Init, Join}
+use Rattle.state_core.specs.declared.transitions.Transition.{Transition}
+use Rattle.state_core.specs.declared.transitions.Transition.TheVariants.{Init, Join, Leave, Renew, Merge}
 use Rattle.update_core.specs.Limits.{max_weight, most}
 use Rattle.history_core.specs.declared.asked.Asked.{Asked}
 use Rattle.history_core.specs.declared.asked.Asked.TheVariants as asks
@@ -98,12 +99,22 @@ pub record IsGot (c : Compactor) (p : Pair) : Type 0 where
   pub known : IsSome c.storing.trying.loader.cached
   pub unread : c.reading.asked ≡ None
 
+-- a transition of a compactor: it joins, leaves, renews its lease or merges, or none is tried
+abbrev pub IsKeepers : Transition → Type 0
+IsKeepers Init = ⊤
+IsKeepers (Join kind now lease) = ⊤
+IsKeepers (Leave member) = ⊤
+IsKeepers (Renew member now) = ⊤
+IsKeepers (Merge member token left right merged) = ⊤
+IsKeepers _ = ⊥
+
 pub record IsSound (c : Compactor) : Type 0 where
   pub storing : storing.IsSound c.storing
   pub reading : readings.IsSound finding c.reading
   pub lent : IfSome c.reading.asked (λ q. IsLent c)
   pub got : IfSome c.pair (IsGot c)
   pub token : c.token ≤ most
+  pub keepers : IsKeepers c.storing.trying.step
   -- a member was seen to join
   pub seen : c.reading.asked ≡ None → IfSome c.member (λ member. IsSome c.storing.trying.loader.cached)
 

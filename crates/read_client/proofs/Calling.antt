@@ -33,7 +33,7 @@ use Rattle.read_client.specs.declared.questions.Question.{Question}
 use Rattle.read_client.specs.declared.questions.Question.TheVariants as questions
 use Rattle.read_client.specs.declared.readers.Reader.{Reader}
 use Rattle.read_client.specs.Asking.{question_of, step_question}
-use Rattle.read_client.specs.Machining.{Opens}
+use Rattle.read_client.specs.Machining.{IsReaders, Opens}
 use Rattle.read_client.specs.Reading.{AsksAs, IsAsked, IsOpen, IsSound, MovesAfterTry, call_by, call_of, question, shard_of}
 use Rattle.read_client.specs.Reading.{verdict}
 use Rattle.read_client.proofs.Sound.{committed_ends, refused_ends}
@@ -122,19 +122,19 @@ try_first r call s is_open unasked e = subst (MakesFirst (Opens r.asked) (shard_
 
 -- ---- what its call is allowed by
 
--- what a reader holds of its step
-steps_free : (r : Reader) → IsOpen r → IsSound r → question r ≡ None → (own : List Answered) → Holds own r.trying.step
-steps_free r is_open s none own = go r.asked s.asked is_open none
+-- where nothing is read, what is tried is a reader's
+pub readers_step : (r : Reader) → IsOpen r → IsSound r → question r ≡ None → IsReaders r.trying.step
+readers_step r is_open s none = go r.asked s.asked is_open none
   where
-    so : (x : Transition) → r.trying.step ≡ x → Holds own x → Holds own r.trying.step
-    so x e h = subst (Holds own) (sym e) h
+    so : (x : Transition) → r.trying.step ≡ x → IsReaders x → IsReaders r.trying.step
+    so x e h = subst IsReaders (sym e) h
 
-    of_member : (m : Option ℕ) (f : ℕ → Transition) → ((member : ℕ) → Holds own (f member)) →
-        IsSomeAnd m (λ member. r.trying.step ≡ f member) → Holds own r.trying.step
+    of_member : (m : Option ℕ) (f : ℕ → Transition) → ((member : ℕ) → IsReaders (f member)) →
+        IsSomeAnd m (λ member. r.trying.step ≡ f member) → IsReaders r.trying.step
     of_member None f h e = absurd e
     of_member (Some member) f h e = so (f member) e (h member)
 
-    listens : (l : Option (Option ℕ)) → step_question l ≡ None → IsSome l → Holds own r.trying.step
+    listens : (l : Option (Option ℕ)) → step_question l ≡ None → IsSome l → IsReaders r.trying.step
     listens None e h = absurd (let bad : false ≡ true = h in cc)
     listens (Some f) e h = absurd (let bad : Some (questions.Step f) ≡ None = e in cc)
 
@@ -142,7 +142,7 @@ steps_free r is_open s none own = go r.asked s.asked is_open none
     some_listens l f e = subst (λ (k : Option (Option ℕ)). IsSome k) (sym e) refl
 
     go : (a : Option Asked) → IfSome a (λ asked. AsksAs (shard_of r) r.member r.trying.step r.listen asked) → IsSome a →
-        question_of a r.listen ≡ None → Holds own r.trying.step
+        question_of a r.listen ≡ None → IsReaders r.trying.step
     go None h o e = absurd (let bad : false ≡ true = o in cc)
     go (Some (asks.OpenReader shard now lease)) h o e = so (Join AsReader now lease) h.2 tt
     go (Some (asks.Advance to)) h o e = of_member r.member (λ member. Advance member to) (λ member. tt) h
@@ -153,6 +153,14 @@ steps_free r is_open s none own = go r.asked s.asked is_open none
     go (Some asks.Next) h o e = listens r.listen e h.1
     go (Some other) h o e = absurd h
 
+-- which needs nothing of its client's own entries
+readers_hold : (own : List Answered) (x : Transition) → IsReaders x → Holds own x
+readers_hold own (Join kind now lease) h = tt
+readers_hold own (Leave member) h = tt
+readers_hold own (Renew member now) h = tt
+readers_hold own (Advance member to) h = tt
+readers_hold own other h = absurd h
+
 holds_next : (next : Next) (x : Transition) (own : List Answered) → Holds own x → HoldsNext next x own
 holds_next nexts.Attempt x own h = tt
 holds_next nexts.Scan x own h = tt
@@ -162,4 +170,4 @@ pub try_allowed : (r : Reader) (call : Call) (own : List Answered) → IsOpen r 
     call_of r ≡ Some call →
     FollowsTrying r.trying own → Allows own call
 try_allowed r call own is_open s none e f = subst (Allows own) (sym (tries_call r call none e))
-    (tried_allowed r.trying own s.trying f (holds_next r.trying.next r.trying.step own (steps_free r is_open s none own)))
+    (tried_allowed r.trying own s.trying f (holds_next r.trying.next r.trying.step own (readers_hold own r.trying.step (readers_step r is_open s none))))

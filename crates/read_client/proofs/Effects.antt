@@ -5,6 +5,7 @@ use Rattle.store_core.specs.declared.shards.ShardId.{ShardId}
 use Rattle.store_core.specs.declared.calls.Call.{Call}
 use Rattle.store_core.specs.declared.replies.Reply.{Reply}
 use Rattle.state_core.specs.declared.transitions.Transition.{Transition}
+use Rattle.state_core.specs.declared.transitions.Transition.TheVariants.{Leave}
 use Rattle.history_core.specs.declared.asked.Asked.{Asked}
 use Rattle.history_core.specs.declared.asked.Asked.TheVariants as asks
 use Rattle.history_core.specs.declared.read_answers.ReadAnswer.{ReadAnswer}
@@ -35,7 +36,7 @@ use Rattle.read_client.specs.Machining.{Did, Opens, kept}
 use Rattle.read_client.specs.Polling.{Effect, IsRefusal}
 use Rattle.read_client.specs.Reading.{IsOpen, IsSound, Moves, MovesBy, call_by, call_of, change_poll, gone_answer, in_answer}
 use Rattle.read_client.specs.Reading.{own_member, question, reading_on, shard_of, taken_back, verdict}
-use Rattle.read_client.proofs.Calling.{tries_call, try_carries, try_first}
+use Rattle.read_client.proofs.Calling.{readers_step, tries_call, try_carries, try_first}
 use Rattle.read_client.proofs.Questioning.{IsReadAnswer, came_reads, came_shown, read_keeps}
 use Rattle.read_client.proofs.Sound.{kept_trying, lent_by}
 
@@ -151,6 +152,7 @@ did_of r new call reply poll s is_open call_is moves = go (question r) refl move
         (outcome t (own_member r) tried) (change_effect (own_member r) r.trying t reply s.trying tried m) in
         record {
           carries = try_carries r call s none call_is;
+          readers = (r.trying.step, readers_step r is_open s none, try_carries r call s none call_is);
           first = try_first r call s is_open none call_is;
           shown = λ refused. subst (λ (c : Call). IsShown (shard_of r) c reply) same
               (stop_shown r.trying t reply tried (refused_stop (record r { trying = t }) asked tried
@@ -169,6 +171,7 @@ did_of r new call reply poll s is_open call_is moves = go (question r) refl move
         let reads : readings.ReadsOf (shard_of r) call = subst (λ (x : ShardId). readings.ReadsOf x call) lent.shard d.reads in
         record {
           carries = of_reads (OnlyCarries (shard_of r) r.trying.step) (shard_of r) call (λ from. tt) (λ key. tt) reads;
+          readers = (Leave 0, tt, of_reads (OnlyCarries (shard_of r) (Leave 0)) (shard_of r) call (λ from. tt) (λ key. tt) reads);
           first = of_reads (MakesFirst (Opens r.asked) (shard_of r)) (shard_of r) call (λ from. tt) (λ key. tt) reads;
           shown = λ refused. subst (λ (x : ShardId). IsShown x call reply) lent.shard
               (came_shown r.reading.asked (IsShown r.reading.course.loader.shard call reply) reply poll d.did refused);

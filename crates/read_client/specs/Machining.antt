@@ -7,6 +7,7 @@ use Rattle.store_core.specs.declared.replies.Reply.{Reply}
 use Rattle.store_core.specs.declared.entries.Entry.{Entry}
 use Rattle.store_core.specs.Stores.{Stored}
 use Rattle.state_core.specs.declared.transitions.Transition.{Transition}
+use Rattle.state_core.specs.declared.transitions.Transition.TheVariants.{Join, Leave, Renew, Advance}
 use Rattle.history_core.specs.Costs.{change_base}
 use Rattle.history_core.specs.declared.asked.Asked.{Asked}
 use Rattle.history_core.specs.declared.asked.Asked.TheVariants as asks
@@ -38,11 +39,23 @@ abbrev pub Opens : Option Asked → Type 0
 Opens (Some (asks.OpenReader shard now lease)) = ⊤
 Opens _ = ⊥
 
--- What one call has done: a Cas carries what was asked, or else makes the shard's first version for an open; a refusal is what a
--- Scan
--- shows; and it has committed no more than this.
+-- a transition of a reader: it joins, leaves, renews its lease or advances its since
+abbrev pub IsReaders : Transition → Type 0
+IsReaders (Join kind now lease) = ⊤
+IsReaders (Leave member) = ⊤
+IsReaders (Renew member now) = ⊤
+IsReaders (Advance member to) = ⊤
+IsReaders _ = ⊥
+
+-- a Cas on a version carries such a transition
+abbrev pub CarriesReaders : ShardId → Call → Type 0
+CarriesReaders shard call = (step : Transition) × IsReaders step × OnlyCarries shard step call
+
+-- What one call has done: a Cas carries what was asked, a transition of a reader, or else makes the shard's first version for an open;
+-- a refusal is what a Scan shows; and it has committed no more than this.
 pub record Did (k : Kept) (call : Call) (reply : Reply) (poll : Poll ReadAnswer) : Type 0 where
   pub carries : OnlyCarries k.shard k.step call
+  pub readers : CarriesReaders k.shard call
   pub first : MakesFirst (Opens k.asked) k.shard call
   pub shown : IsRefusal poll → IsShown k.shard call reply
   pub effect : Effect k.shard k.step call reply poll
