@@ -160,5 +160,9 @@ carries_of old call ready call_is = go old.reading.asked call_is
   where
     go : (o : Option Due) → call_by old o ≡ Some call → CarriesKeepers (shard_of old) call
     go None is = (old.storing.trying.step, ready.sound.keepers, carries old.storing call ready.sound.storing is)
-    go (Some q) is = (Init, tt, of_reads (OnlyCarries (shard_of old) Init) old.reading.course.loader.shard call (λ from. tt) (λ key. tt)
-        (reads_of finding old.reading.course call is))
+    go (Some q) is = (
+      Init,
+      tt,
+      of_reads (OnlyCarries (shard_of old) Init) old.reading.course.loader.shard call (λ from. tt) (λ key. tt)
+          (reads_of finding old.reading.course call is),
+    )

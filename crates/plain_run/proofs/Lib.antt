@@ -11,6 +11,7 @@ pub mod CompactLaws
 pub mod CompactRuns
 pub mod Refused
 pub mod DriveLaws
+pub mod Appendless
 pub mod SessionLaws
 pub mod WriteLaws
 pub mod ReadLaws

@@ -5,6 +5,7 @@ use Rattle.store_core.specs.declared.shards.ShardId.{ShardId}
 use Rattle.store_core.specs.declared.entries.Entry.{Entry}
 use Rattle.store_core.specs.Stores.{Stored}
 use Rattle.update_core.specs.Limits.{max_members, most}
+use Rattle.history_core.specs.Stands.{accepted}
 use Rattle.machine_core.specs.Machines.{Words}
 use Rattle.driving.specs.Drives.{Answered, Scanned}
 use Rattle.plain_run.specs.declared.session_faults.SessionFault.{SessionFault}
@@ -25,6 +26,10 @@ Failed shard faults.Store start es now = ⊤
 Failed shard faults.Damaged start es now = ⊥
 Failed shard faults.MembersFull start es now = ScannedFull shard start es now
 Failed shard faults.Spent start es now = ScannedSpent shard start es now
+
+-- what is accepted stays
+abbrev pub StaysAccepted : ShardId → List Update → Stored → List Entry → List Entry → Type 0
+StaysAccepted shard list start es now = accepted shard list start now ≡ accepted shard list start es
 
 -- what has become of a command of a machine
 abbrev pub Driven : ShardId → {M A : Type 0} → (W : Words M A) → ℕ → W.Kept → Result A SessionFault → List Update → Stored → List Entry →

@@ -7,6 +7,7 @@ ghost use Rattle.driving.specs.Goings.{Goes, GrowsBy};
 ghost use Rattle.feed_text.specs.declared.feed_lines.FeedLine.TheVariants as lines;
 ghost use Rattle.plain_run.specs.Answering.{AnswersLine, Closed, Ready, Tends, TendsTo, number_of, renewed};
 ghost use Rattle.plain_run.specs.Compacting.{CompactorReady, LeavesKeeper, MakesCompactor, MergesAll, MergesNext, compactor_let_in, keeper_of, merge_made};
+ghost use Rattle.plain_run.specs.Drives.{StaysAccepted};
 ghost use Rattle.plain_run.specs.Settling.{GetsSettled};
 
 use crate::drives::{drive_collector, drive_compactor, drive_reader};
@@ -66,6 +67,8 @@ fn open_compactor<S: Store>(
     now: u64,
 ) -> Result<Compactor, SessionFault>
     ensures told { Goes shard (S.history port.old.store) (S.history port.new.store) (MakesCompactor shard result) }
+    // On every result.
+    ensures keeps { Goes shard (S.history port.old.store) (S.history port.new.store) (StaysAccepted shard) }
     ensures by { OnOk result (GrowsBy client (S.history port.old.store) (S.history port.new.store)) }
     ensures ready { IfOk result (CompactorReady shard client (S.history port.new.store)) }
     ensures token { IfOk result (λ c. c.token ≡ 0) }
@@ -89,6 +92,8 @@ fn merge_next<S: Store>(
     requires ready { CompactorReady shard client (S.history port.old.store) compactor.old }
     requires token { compactor.old.token < most }
     ensures told { Goes shard (S.history port.old.store) (S.history port.new.store) (MergesNext shard (keeper_of compactor.old) result) }
+    // On every result.
+    ensures keeps { Goes shard (S.history port.old.store) (S.history port.new.store) (StaysAccepted shard) }
     ensures by { OnOk result (GrowsBy client (S.history port.old.store) (S.history port.new.store)) }
     ensures ready { OnOk result (CompactorReady shard client (S.history port.new.store) compactor.new) }
     ensures member { OnOk result (compactor.new.member ≡ compactor.old.member) }
@@ -112,6 +117,8 @@ fn merge_due<S: Store>(
     requires ready { CompactorReady shard client (S.history port.old.store) compactor.old }
     requires token { compactor.old.token ≡ 0 }
     ensures told { Goes shard (S.history port.old.store) (S.history port.new.store) (MergesAll shard (keeper_of compactor.old) result) }
+    // On every result.
+    ensures keeps { Goes shard (S.history port.old.store) (S.history port.new.store) (StaysAccepted shard) }
     ensures by { OnOk result (GrowsBy client (S.history port.old.store) (S.history port.new.store)) }
     ensures ready { OnOk result (CompactorReady shard client (S.history port.new.store) compactor.new) }
     ensures member { OnOk result (compactor.new.member ≡ compactor.old.member) }
@@ -137,6 +144,8 @@ fn leave<S: Store>(
 ) -> Result<(), SessionFault>
     requires ready { CompactorReady shard client (S.history port.old.store) compactor.old }
     ensures told { Goes shard (S.history port.old.store) (S.history port.new.store) (LeavesKeeper shard (keeper_of compactor.old) result) }
+    // On every result.
+    ensures keeps { Goes shard (S.history port.old.store) (S.history port.new.store) (StaysAccepted shard) }
     ensures by { OnOk result (GrowsBy client (S.history port.old.store) (S.history port.new.store)) }
     ensures failed { result ≡ Err SessionFault.Store → StoreFailed (S.history port.new.store) (S.faults port.old.store) (S.faults port.new.store) }
     ensures later { S.faults port.old.store ≤ S.faults port.new.store }
@@ -155,6 +164,8 @@ pub fn merge_all<S: Store>(
     now: u64,
 ) -> Result<(), SessionFault>
     ensures told { (reader : ℕ) → Goes shard (S.history port.old.store) (S.history port.new.store) (TendsTo shard reader (GetsSettled shard) result) }
+    // On every result.
+    ensures keeps { Goes shard (S.history port.old.store) (S.history port.new.store) (StaysAccepted shard) }
     ensures by { OnOk result (GrowsBy client (S.history port.old.store) (S.history port.new.store)) }
     ensures failed { result ≡ Err SessionFault.Store → StoreFailed (S.history port.new.store) (S.faults port.old.store) (S.faults port.new.store) }
     ensures later { S.faults port.old.store ≤ S.faults port.new.store }
@@ -173,6 +184,8 @@ pub fn collect_once<S: Store>(
 ) -> Result<(), SessionFault>
     ensures told { (reader : ℕ) → Goes shard (S.history port.old.store) (S.history port.new.store) (Tends shard reader result) }
     ensures closes { Goes shard (S.history port.old.store) (S.history port.new.store) (Closed shard result) }
+    // On every result.
+    ensures keeps { Goes shard (S.history port.old.store) (S.history port.new.store) (StaysAccepted shard) }
     ensures by { OnOk result (GrowsBy client (S.history port.old.store) (S.history port.new.store)) }
     ensures failed { result ≡ Err SessionFault.Store → StoreFailed (S.history port.new.store) (S.faults port.old.store) (S.faults port.new.store) }
     ensures later { S.faults port.old.store ≤ S.faults port.new.store }

@@ -17,7 +17,7 @@ ghost use Rattle.merge_client.specs.Polling as merging;
 ghost use Rattle.merge_client.specs.Merging as mergers;
 ghost use Rattle.driving.specs.StoreTurns.{StoreFailed};
 ghost use Rattle.driving.specs.Goings.{Goes, GrowsBy};
-ghost use Rattle.plain_run.specs.Drives.{Driven};
+ghost use Rattle.plain_run.specs.Drives.{Driven, StaysAccepted};
 
 use crate::places::Place;
 use crate::session_faults::SessionFault;
@@ -72,6 +72,8 @@ pub(crate) fn drive_reader<S: Store>(
     requires cost { WhereLawful (readers.shard_of reader.old) (S.history port.old.store) (Backwards (reading.CostAt 3 place.reader reader.old)) }
     ensures told { Goes place.shard (S.history port.old.store) (S.history port.new.store)
         (Driven place.shard read_machine.machine place.reader (read_machine.kept reader.old) result) }
+    // Whatever comes of its calls.
+    ensures keeps { Goes place.shard (S.history port.old.store) (S.history port.new.store) (StaysAccepted place.shard) }
     ensures by { OnOk result (GrowsBy place.reader (S.history port.old.store) (S.history port.new.store)) }
     ensures ended { IfOk result (λ answer. read_machine.Ended (read_machine.kept reader.old) answer reader.new) }
     ensures sound { readers.IsSound reader.new }
@@ -98,6 +100,8 @@ pub(crate) fn drive_collector<S: Store>(
     requires cost { WhereLawful collector.old.shard (S.history port.old.store) (Backwards (collecting.collecting.CostAt 2 client collector.old)) }
     ensures told { Goes collector.old.shard (S.history port.old.store) (S.history port.new.store)
         (Driven collector.old.shard collecting.collecting client (collecting.kept collector.old) result) }
+    // Whatever comes of its calls.
+    ensures keeps { Goes collector.old.shard (S.history port.old.store) (S.history port.new.store) (StaysAccepted collector.old.shard) }
     ensures by { OnOk result (GrowsBy client (S.history port.old.store) (S.history port.new.store)) }
     ensures failed { result ≡ Err SessionFault.Store → StoreFailed (S.history port.new.store) (S.faults port.old.store) (S.faults port.new.store) }
     ensures later { S.faults port.old.store ≤ S.faults port.new.store }
@@ -123,6 +127,8 @@ pub(crate) fn drive_compactor<S: Store>(
     requires cost { WhereLawful (mergers.shard_of compactor.old) (S.history port.old.store) (Backwards (merging.CostAt 3 client compactor.old)) }
     ensures told { Goes shard (S.history port.old.store) (S.history port.new.store)
         (Driven shard merge_machine.machine client (merge_machine.kept compactor.old) result) }
+    // Whatever comes of its calls.
+    ensures keeps { Goes shard (S.history port.old.store) (S.history port.new.store) (StaysAccepted shard) }
     ensures by { OnOk result (GrowsBy client (S.history port.old.store) (S.history port.new.store)) }
     ensures ended { IfOk result (λ answer. merge_machine.Ended (merge_machine.kept compactor.old) answer compactor.new) }
     ensures sound { mergers.IsSound compactor.new }

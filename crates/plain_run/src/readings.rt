@@ -5,6 +5,7 @@ ghost use Rattle.update_core.specs.Frontiers.{after};
 ghost use Rattle.plain_run.specs.PlainRuns.{listen_text, since_reply, snapshot_text, view_since};
 ghost use Rattle.driving.specs.StoreTurns.{StoreFailed};
 ghost use Rattle.driving.specs.Goings.{Goes, GrowsBy};
+ghost use Rattle.plain_run.specs.Drives.{StaysAccepted};
 ghost use Rattle.plain_run.specs.Answering.{Closed, OpensReader, ReaderReady, Replies, StillSettled, number_of, read_reply, reader_let_in};
 
 use crate::drives::drive_reader;
@@ -59,6 +60,8 @@ pub fn open_reader<S: Store>(
     now: u64,
 ) -> Result<Reader, SessionFault>
     ensures told { Goes place.shard (S.history port.old.store) (S.history port.new.store) (OpensReader place.shard result) }
+    // On every result.
+    ensures keeps { Goes place.shard (S.history port.old.store) (S.history port.new.store) (StaysAccepted place.shard) }
     ensures by { OnOk result (GrowsBy place.reader (S.history port.old.store) (S.history port.new.store)) }
     ensures ready { IfOk result (ReaderReady place.shard place.reader (S.history port.new.store)) }
     ensures failed { result ≡ Err SessionFault.Store → StoreFailed (S.history port.new.store) (S.faults port.old.store) (S.faults port.new.store) }
@@ -81,6 +84,8 @@ pub fn read_snapshot<S: Store>(
     requires ready { ReaderReady place.shard place.reader (S.history port.old.store) reader.old }
     ensures told { Goes place.shard (S.history port.old.store) (S.history port.new.store) (Replies place.shard (number_of reader.old) (λ view. snapshot_text (snapshot_answer view.collection t)) (λ view. view) result) }
     ensures still { OnOk result (Goes place.shard (S.history port.old.store) (S.history port.new.store) (StillSettled place.shard (number_of reader.old))) }
+    // On every result.
+    ensures keeps { Goes place.shard (S.history port.old.store) (S.history port.new.store) (StaysAccepted place.shard) }
     ensures by { OnOk result (GrowsBy place.reader (S.history port.old.store) (S.history port.new.store)) }
     ensures ready { OnOk result (ReaderReady place.shard place.reader (S.history port.new.store) reader.new) }
     ensures member { OnOk result (reader.new.member ≡ reader.old.member) }
@@ -103,6 +108,8 @@ pub fn read_listen<S: Store>(
     requires ready { ReaderReady place.shard place.reader (S.history port.old.store) reader.old }
     ensures told { Goes place.shard (S.history port.old.store) (S.history port.new.store) (Replies place.shard (number_of reader.old) (λ view. listen_text (listen_answer view.collection (after t))) (λ view. view) result) }
     ensures still { OnOk result (Goes place.shard (S.history port.old.store) (S.history port.new.store) (StillSettled place.shard (number_of reader.old))) }
+    // On every result.
+    ensures keeps { Goes place.shard (S.history port.old.store) (S.history port.new.store) (StaysAccepted place.shard) }
     ensures by { OnOk result (GrowsBy place.reader (S.history port.old.store) (S.history port.new.store)) }
     ensures ready { OnOk result (ReaderReady place.shard place.reader (S.history port.new.store) reader.new) }
     ensures member { OnOk result (reader.new.member ≡ reader.old.member) }
@@ -124,6 +131,8 @@ pub fn advance_reader<S: Store>(
 ) -> Result<RunReply, SessionFault>
     requires ready { ReaderReady place.shard place.reader (S.history port.old.store) reader.old }
     ensures told { Goes place.shard (S.history port.old.store) (S.history port.new.store) (Replies place.shard (number_of reader.old) (λ view. since_reply view.own to) (λ view. view_since view to) result) }
+    // On every result.
+    ensures keeps { Goes place.shard (S.history port.old.store) (S.history port.new.store) (StaysAccepted place.shard) }
     ensures by { OnOk result (GrowsBy place.reader (S.history port.old.store) (S.history port.new.store)) }
     ensures ready { OnOk result (ReaderReady place.shard place.reader (S.history port.new.store) reader.new) }
     ensures member { OnOk result (reader.new.member ≡ reader.old.member) }
@@ -144,6 +153,8 @@ pub fn close_reader<S: Store>(
 ) -> Result<(), SessionFault>
     requires ready { ReaderReady place.shard place.reader (S.history port.old.store) reader.old }
     ensures told { Goes place.shard (S.history port.old.store) (S.history port.new.store) (Closed place.shard result) }
+    // On every result.
+    ensures keeps { Goes place.shard (S.history port.old.store) (S.history port.new.store) (StaysAccepted place.shard) }
     ensures by { OnOk result (GrowsBy place.reader (S.history port.old.store) (S.history port.new.store)) }
     ensures failed { result ≡ Err SessionFault.Store → StoreFailed (S.history port.new.store) (S.faults port.old.store) (S.faults port.new.store) }
     ensures later { S.faults port.old.store ≤ S.faults port.new.store }

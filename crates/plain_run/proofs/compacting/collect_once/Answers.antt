@@ -6,10 +6,11 @@ use Rattle.history_core.specs.declared.asked.Asked.TheVariants as asks
 use Rattle.maint_client.specs.declared.collectors.Collector.{Collector}
 use Rattle.maint_client.specs.Collecting.{CollectKept, collecting, kept}
 use Rattle.plain_run.specs.declared.session_faults.SessionFault.{SessionFault}
-use Rattle.plain_run.specs.Drives.{Failed}
+use Rattle.plain_run.specs.Drives.{Failed, StaysAccepted}
 use Rattle.plain_run.specs.Settling.{StaysSettled}
 use Rattle.driving.specs.Drives.{Answered}
 use Rattle.driving.specs.Goings.{Goes}
+use Rattle.plain_run.proofs.Appendless.{nothing_stays}
 use Rattle.plain_run.proofs.TendLaws.{collected, collects, collects_closed, failed_tends, somewhere}
 use Rattle.plain_run.proofs.compacting.collect_once.Goals as goal
 
@@ -63,3 +64,22 @@ returns-clause-closes g c =
     collects_closed c.args.shard c.args.client a d (Some asks.Collect) answer
     (subst (λ (k : CollectKept). Goes c.args.shard a d (Answered collecting c.args.client k answer)) same
     (subst (λ (s : ShardId). Goes s a d (Answered collecting c.args.client (kept new) answer)) own c.in_ok-_answer.ensures.told))
+
+pub returns-in_err-begin_collect-clause-keeps : goal.returns-in_err-begin_collect-clause-keeps
+returns-in_err-begin_collect-clause-keeps g c = nothing_stays c.args.shard (g.S.Store.history c.args.port.now.store)
+
+pub returns-in_err-_answer-clause-keeps : goal.returns-in_err-_answer-clause-keeps
+returns-in_err-_answer-clause-keeps g c =
+    let a = g.S.Store.history c.args.port.now.store in
+    let d = g.S.Store.history c.drive_collector.new.port.store in
+    let is = c.in_ok-begin_collect.ensures.begins.1 in
+    let own : c.begin_collect.new.self.shard ≡ c.args.shard = ap (λ (w : Collector). w.shard) is ∙ c.new-collector.ensures.shard in
+    subst (λ (s : ShardId). Goes s a d (StaysAccepted s)) own c.drive_collector.ensures.keeps
+
+pub returns-clause-keeps : goal.returns-clause-keeps
+returns-clause-keeps g c =
+    let a = g.S.Store.history c.args.port.now.store in
+    let d = g.S.Store.history c.drive_collector.new.port.store in
+    let is = c.in_ok-begin_collect.ensures.begins.1 in
+    let own : c.begin_collect.new.self.shard ≡ c.args.shard = ap (λ (w : Collector). w.shard) is ∙ c.new-collector.ensures.shard in
+    subst (λ (s : ShardId). Goes s a d (StaysAccepted s)) own c.drive_collector.ensures.keeps

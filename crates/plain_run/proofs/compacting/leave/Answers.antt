@@ -7,6 +7,7 @@ use Rattle.driving.specs.Goings.{Goes}
 use Rattle.plain_run.specs.declared.session_faults.SessionFault.{SessionFault}
 use Rattle.plain_run.specs.Compacting.{LeavesKeeper}
 use Rattle.plain_run.specs.Drives.{Failed}
+use Rattle.plain_run.proofs.Appendless.{nothing_stays}
 use Rattle.plain_run.proofs.CompactLaws.{leaves_compactor}
 use Rattle.plain_run.proofs.CompactRuns.{leave_begun}
 use Rattle.merge_client.proofs.Begun.{closing_where}
@@ -35,3 +36,6 @@ returns-clause-told g c =
     subst (λ (n : ℕ). Goes c.args.shard a d (LeavesKeeper c.args.shard n (Ok tt))) (ap (λ (m : Option ℕ). unwrap_or m 0) (sym begun.had))
     (leaves_compactor c.args.shard c.args.client a d begun.number begun.token c.in_ok-_answer._answer
     (subst (λ (k : Kept). Goes c.args.shard a d (Answered machine c.args.client k c.in_ok-_answer._answer)) begun.kept c.in_ok-_answer.ensures.told))
+
+pub returns-in_err-begin_close-clause-keeps : goal.returns-in_err-begin_close-clause-keeps
+returns-in_err-begin_close-clause-keeps g c = nothing_stays c.args.shard (g.S.Store.history c.args.port.now.store)

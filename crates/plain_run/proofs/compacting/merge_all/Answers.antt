@@ -7,6 +7,7 @@ use Rattle.plain_run.specs.declared.session_faults.SessionFault.{SessionFault}
 use Rattle.plain_run.specs.Answering.{TendsTo}
 use Rattle.plain_run.specs.Compacting.{LeavesKeeper, keeper_of}
 use Rattle.plain_run.specs.Settling.{GetsSettled}
+use Rattle.plain_run.proofs.Appendless.{more_stays}
 use Rattle.plain_run.proofs.CompactRuns.{compacts, compacts_not}
 use Rattle.plain_run.proofs.ReplyLaws.{on_reply}
 use Rattle.plain_run.proofs.TendLaws.{failed_tends, somewhere}
@@ -50,3 +51,17 @@ returns-clause-by g c =
     let merged = grows_more client a b d c.in_ok-compactor.ensures.by c.in_ok-merge_due.ensures.by in
     on_reply c.leave.result (GrowsBy client a e) (λ done is.
     grows_more client a d e merged (subst (λ (r : Result Unit SessionFault). OnOk r (GrowsBy client d e)) is c.leave.ensures.by))
+
+pub returns-in_err-merge_due-clause-keeps : goal.returns-in_err-merge_due-clause-keeps
+returns-in_err-merge_due-clause-keeps g c =
+    more_stays c.args.shard (g.S.Store.history c.args.port.now.store) (g.S.Store.history c.open_compactor.new.port.store)
+    (g.S.Store.history c.merge_due.new.port.store) c.open_compactor.ensures.keeps c.merge_due.ensures.keeps
+
+pub returns-clause-keeps : goal.returns-clause-keeps
+returns-clause-keeps g c =
+    let a = g.S.Store.history c.args.port.now.store in
+    let d = g.S.Store.history c.merge_due.new.port.store in
+    let e = g.S.Store.history c.leave.new.port.store in
+    more_stays c.args.shard a d e
+    (more_stays c.args.shard a (g.S.Store.history c.open_compactor.new.port.store) d c.open_compactor.ensures.keeps c.merge_due.ensures.keeps)
+    c.leave.ensures.keeps

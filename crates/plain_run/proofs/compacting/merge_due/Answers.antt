@@ -5,12 +5,14 @@ use Rattle.driving.specs.Goings.{Goes}
 use Rattle.driving.proofs.GoingLaws.{grows_more, grows_none}
 use Rattle.plain_run.specs.declared.session_faults.SessionFault.{SessionFault}
 use Rattle.plain_run.specs.Compacting.{MergesAll, MergesNext, keeper_of}
+use Rattle.plain_run.proofs.Appendless.{more_stays, nothing_stays}
 use Rattle.plain_run.proofs.CompactRuns.{made_all, made_fails, made_none, made_one, made_too_many}
 use Rattle.plain_run.proofs.compacting.merge_due.Goals as goal
 
 pub loop-init : goal.loop-init
 loop-init g c = record {
   told = made_none c.args.shard (keeper_of c.args.compactor.now) (g.S.Store.history c.args.port.now.store);
+  keeps = nothing_stays c.args.shard (g.S.Store.history c.args.port.now.store);
   by = grows_none c.args.client (g.S.Store.history c.args.port.now.store);
   ready = c.requires.ready;
   member = refl;
@@ -59,6 +61,7 @@ loop-preserved g c =
     record {
       told = made_one c.args.shard n a b d l.counter l.invariant.told
           (subst (λ (k : ℕ). Goes c.args.shard b d (MergesNext c.args.shard k (Ok true))) number next);
+      keeps = more_stays c.args.shard a b d l.invariant.keeps c.merge_next.ensures.keeps;
       by = grows_more c.args.client a b d l.invariant.by e.by;
       ready = e.ready;
       member = e.member ∙ l.invariant.member;
@@ -71,3 +74,13 @@ returns-clause-told g c =
     let a = g.S.Store.history c.args.port.now.store in
     let b = g.S.Store.history c.loop.port.store in
     made_too_many c.args.shard (keeper_of c.args.compactor.now) a b c.loop.counter (omega (arith, c.loop-test.false, c.loop.auto.counter-end)) c.loop.invariant.told
+
+pub returns-in_err-made-clause-keeps : goal.returns-in_err-made-clause-keeps
+returns-in_err-made-clause-keeps g c =
+    more_stays c.args.shard (g.S.Store.history c.args.port.now.store) (g.S.Store.history c.loop.port.store)
+    (g.S.Store.history c.merge_next.new.port.store) c.loop.invariant.keeps c.merge_next.ensures.keeps
+
+pub returns-then-not-made-clause-keeps : goal.returns-then-not-made-clause-keeps
+returns-then-not-made-clause-keeps g c =
+    more_stays c.args.shard (g.S.Store.history c.args.port.now.store) (g.S.Store.history c.loop.port.store)
+    (g.S.Store.history c.merge_next.new.port.store) c.loop.invariant.keeps c.merge_next.ensures.keeps

@@ -7,6 +7,7 @@ use Rattle.driving.specs.Goings.{Goes}
 use Rattle.plain_run.specs.declared.session_faults.SessionFault.{SessionFault}
 use Rattle.plain_run.specs.Compacting.{CompactorReady, keeper_of}
 use Rattle.plain_run.specs.Drives.{Failed}
+use Rattle.plain_run.proofs.Appendless.{nothing_stays}
 use Rattle.plain_run.proofs.CompactLaws.{merges_next}
 use Rattle.plain_run.proofs.CompactRuns.{failed_merge, merge_begun, merge_told, ready_merged}
 use Rattle.plain_run.proofs.ReplyLaws.{on_reply}
@@ -45,3 +46,6 @@ returns-clause-ready g c =
     on_reply c.merged.result (CompactorReady c.args.shard c.args.client d c.drive_compactor.new.compactor) (λ made is.
     ready_merged c.args.shard c.args.client a d c.args.compactor.now c.begin_merge.new.self c.drive_compactor.new.compactor c.in_ok-answer.answer made
     c.requires.ready begun c.in_ok-answer.ensures.ended c.drive_compactor.ensures.sound c.in_ok-answer.ensures.follows (sym c.merged.ensures ∙ is))
+
+pub returns-in_err-begin_merge-clause-keeps : goal.returns-in_err-begin_merge-clause-keeps
+returns-in_err-begin_merge-clause-keeps g c = nothing_stays c.args.shard (g.S.Store.history c.args.port.now.store)

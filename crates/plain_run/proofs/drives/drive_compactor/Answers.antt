@@ -1,6 +1,10 @@
 use Rattle.std.proofs.lemmas.Result.{err_from_is_err_and}
 use Rattle.merge_client.proofs.Machining.{ending, keeps}
 use Rattle.merge_client.specs.Machining.{kept, machine}
+use Rattle.std.proofs.Common.{subst}
+use Rattle.store_core.specs.declared.shards.ShardId.{ShardId}
+use Rattle.merge_client.specs.Merging.{shard_of}
+use Rattle.plain_run.proofs.Appendless.{AppendsNone, drive_stays, keeper_free}
 use Rattle.plain_run.proofs.DriveLaws.{drive_answers, drive_fails}
 use Rattle.plain_run.proofs.drives.drive_compactor.Goals as goal
 
@@ -22,3 +26,15 @@ returns-clause-told g c =
     let a = g.S.Store.history c.args.port.now.store in
     let d = g.S.Store.history c.drive.new.port.store in
     drive_answers c.args.shard machine c.args.client (kept c.args.compactor.now) c.requires.shard a d c.in_ok-answer.answer c.in_ok-answer.ensures.told
+
+pub returns-in_err-answer-clause-keeps : goal.returns-in_err-answer-clause-keeps
+returns-in_err-answer-clause-keeps g c =
+    let a = g.S.Store.history c.args.port.now.store in
+    let d = g.S.Store.history c.drive.new.port.store in
+    drive_stays machine (kept c.args.compactor.now) c.args.shard (λ call r poll did. subst (λ (s : ShardId). AppendsNone s call) c.requires.shard (keeper_free (shard_of c.args.compactor.now) call did.carries)) c.args.client a d _ c.requires.shard c.in_err-answer.ensures.told c.drive.ensures.calls
+
+pub returns-clause-keeps : goal.returns-clause-keeps
+returns-clause-keeps g c =
+    let a = g.S.Store.history c.args.port.now.store in
+    let d = g.S.Store.history c.drive.new.port.store in
+    drive_stays machine (kept c.args.compactor.now) c.args.shard (λ call r poll did. subst (λ (s : ShardId). AppendsNone s call) c.requires.shard (keeper_free (shard_of c.args.compactor.now) call did.carries)) c.args.client a d _ c.requires.shard c.in_ok-answer.ensures.told c.drive.ensures.calls

@@ -7,6 +7,7 @@ use Rattle.plain_run.specs.Answering.{ReaderReady, number_of}
 use Rattle.plain_run.specs.Drives.{Failed}
 use Rattle.driving.specs.Goings.{Goes}
 use Rattle.plain_run.specs.PlainRuns.{since_reply, view_since}
+use Rattle.plain_run.proofs.Appendless.{nothing_stays}
 use Rattle.plain_run.proofs.ReplyLaws.{asked_told, change_begun, failed_replies, on_reply, read_told, reader_read}
 use Rattle.plain_run.proofs.ReadLaws.{advancing}
 use Rattle.plain_run.proofs.readings.advance_reader.Goals as goal
@@ -45,3 +46,6 @@ returns-clause-ready g c =
     on_reply c.reply_read.result (ReaderReady c.args.place.shard c.args.place.reader d c.drive_reader.new.reader) (λ r is.
     reader_read c.args.place a d c.args.reader.now c.begin_advance.new.self c.drive_reader.new.reader c.args.reader.now.listen (asks.Advance c.args.to) c.in_ok-answer.answer r
     c.requires.ready begun c.in_ok-answer.ensures.ended c.drive_reader.ensures.sound c.in_ok-answer.ensures.follows (sym c.reply_read.ensures ∙ is))
+
+pub returns-in_err-begin_advance-clause-keeps : goal.returns-in_err-begin_advance-clause-keeps
+returns-in_err-begin_advance-clause-keeps g c = nothing_stays c.args.place.shard (g.S.Store.history c.args.port.now.store)

@@ -5,6 +5,7 @@ use Rattle.history_core.specs.declared.asked.Asked.TheVariants as asks
 use Rattle.plain_run.specs.declared.session_faults.SessionFault.{SessionFault}
 use Rattle.plain_run.specs.Drives.{Failed}
 use Rattle.driving.specs.Goings.{Goes}
+use Rattle.plain_run.proofs.Appendless.{nothing_stays}
 use Rattle.plain_run.proofs.ReplyLaws.{asked_told, change_begun}
 use Rattle.plain_run.proofs.ReadLaws.{leaves_reader}
 use Rattle.plain_run.proofs.readings.close_reader.Goals as goal
@@ -26,3 +27,6 @@ returns-clause-told g c =
     leaves_reader c.args.place.shard c.args.place.reader a d begun.0.number c.args.reader.now.listen (Leave begun.0.number) c.in_ok-_answer._answer
     (asked_told c.args.place a d c.args.reader.now c.begin_close.new.self c.args.reader.now.listen asks.CloseReader
     (Leave begun.0.number) c.in_ok-_answer._answer begun.0 begun.1 c.in_ok-_answer.ensures.told)
+
+pub returns-in_err-begin_close-clause-keeps : goal.returns-in_err-begin_close-clause-keeps
+returns-in_err-begin_close-clause-keeps g c = nothing_stays c.args.place.shard (g.S.Store.history c.args.port.now.store)

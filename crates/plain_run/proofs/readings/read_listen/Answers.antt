@@ -10,6 +10,7 @@ use Rattle.plain_run.specs.Answering.{ReaderReady, StillSettled, number_of}
 use Rattle.plain_run.specs.Drives.{Failed}
 use Rattle.driving.specs.Goings.{Goes}
 use Rattle.plain_run.specs.PlainRuns.{listen_text}
+use Rattle.plain_run.proofs.Appendless.{nothing_stays}
 use Rattle.plain_run.proofs.ReplyLaws.{asked_told, failed_replies, on_reply, read_begun, read_told, reader_read}
 use Rattle.plain_run.proofs.ReadLaws.{listens, listens_settle}
 use Rattle.plain_run.proofs.readings.read_listen.Goals as goal
@@ -60,3 +61,6 @@ returns-clause-still g c =
     subst (λ (n : ℕ). Goes shard a d (StillSettled shard n)) number
     (listens_settle shard c.args.place.reader a d begun.number (Some (after c.args.t)) new.trying.step c.args.t answer
     (asked_told c.args.place a d old new (Some (after c.args.t)) (asks.Listen c.args.t) new.trying.step answer begun refl c.in_ok-answer.ensures.told)))
+
+pub returns-in_err-begin_listen-clause-keeps : goal.returns-in_err-begin_listen-clause-keeps
+returns-in_err-begin_listen-clause-keeps g c = nothing_stays c.args.place.shard (g.S.Store.history c.args.port.now.store)

@@ -8,6 +8,7 @@ use Rattle.plain_run.specs.Answering.{ReaderReady, StillSettled, number_of}
 use Rattle.plain_run.specs.Drives.{Failed}
 use Rattle.driving.specs.Goings.{Goes}
 use Rattle.plain_run.specs.PlainRuns.{snapshot_text}
+use Rattle.plain_run.proofs.Appendless.{nothing_stays}
 use Rattle.plain_run.proofs.ReplyLaws.{asked_told, failed_replies, on_reply, read_begun, read_told, reader_read}
 use Rattle.plain_run.proofs.ReadLaws.{snapshots, snapshots_settle}
 use Rattle.plain_run.proofs.readings.read_snapshot.Goals as goal
@@ -58,3 +59,6 @@ returns-clause-still g c =
     subst (λ (n : ℕ). Goes shard a d (StillSettled shard n)) number
     (snapshots_settle shard c.args.place.reader a d begun.number c.args.reader.now.listen new.trying.step c.args.t answer
     (asked_told c.args.place a d old new c.args.reader.now.listen (asks.Snapshot c.args.t) new.trying.step answer begun refl c.in_ok-answer.ensures.told)))
+
+pub returns-in_err-begin_snapshot-clause-keeps : goal.returns-in_err-begin_snapshot-clause-keeps
+returns-in_err-begin_snapshot-clause-keeps g c = nothing_stays c.args.place.shard (g.S.Store.history c.args.port.now.store)
