@@ -1,5 +1,5 @@
 -- A whole ingest. Entries go newest first.
-use Rattle.std.proofs.Common.{◌≡◌, ℕ, ◌+◌, ◌≤◌, ◌^◌, Option, Some, None, Result, Ok, Err, List, [], ◌++◌, inl, inr, refl, sym, ap, subst, ◌∙◌}
+use Rattle.std.proofs.Common.{◌≡◌, ℕ, ◌+◌, ◌≤◌, ◌^◌, Option, Some, None, Result, Ok, Err, List, [], ◌++◌, inl, inr, refl, sym, ap, subst, ◌∙◌, append-nil}
 use Rattle.std.specs.Prelude.{nat_le}
 use Rattle.update_core.specs.declared.updates.Update.{Update}
 use Rattle.update_core.specs.declared.appends.FeedAppend.{FeedAppend}
@@ -19,12 +19,14 @@ use Rattle.feed_text.specs.declared.feed_lines.FeedLine.{FeedLine}
 use Rattle.driving.specs.Goings.{Goes}
 use Rattle.driving.proofs.GoingLaws.{Between, going_so, more_going}
 use Rattle.plain_run.specs.Answering.{number_of}
+use Rattle.plain_run.specs.Drives.{StaysAccepted}
 use Rattle.plain_run.specs.PlainRuns.{View, plain_run}
 use Rattle.plain_run.specs.Sessions.{StartsAt, ViewAt}
 use Rattle.ingest_run.specs.declared.faults.IngestFault.{IngestFault}
 use Rattle.ingest_run.specs.declared.faults.IngestFault.TheVariants as faults
-use Rattle.ingest_run.specs.Ends.{Begins, Ends, Finishes, Ingests, Suits, Takes, TakesSome, TakesUpTo, Works}
+use Rattle.ingest_run.specs.Ends.{Begins, Ends, Finishes, Ingests, Suits, Takes, TakesFirst, TakesPast, TakesSome, TakesUpTo, Works}
 use Rattle.ingest_run.specs.PlainIngests.{since_done}
+use Rattle.plain_run.proofs.Views.{accepted_stands}
 use Rattle.ingest_run.proofs.FaultLaws.{fault_since}
 
 -- ---- a since moves neither updates, nor the upper, nor the weight
@@ -140,6 +142,13 @@ module _ (shard : ShardId) (a b d : Option History) (feed : IngestFeed) (compact
         (Works shard (number_of reader) feed.appends feed.queries compactors (Err faults.MembersFull))
         (Ingests shard feed compactors (Err faults.MembersFull)) x y ingested_some
 
+    -- the first few are in, whatever comes of the crew and of what is done after it
+    pub ingested_takes : Goes shard a b (Begins shard feed (Ok reader)) → Goes shard b d (TakesPast shard (number_of reader) feed.appends) →
+        Goes shard a d (TakesFirst shard feed.appends)
+    ingested_takes x y =
+        more_going shard a b d (Begins shard feed (Ok reader)) (TakesPast shard (number_of reader) feed.appends)
+        (TakesFirst shard feed.appends) x y ingested_some
+
   -- ---- without one
 
   pub ingested_not : (fault : IngestFault) → Goes shard a b (Begins shard feed (Err fault)) → Goes shard a b (Ingests shard feed compactors (Err fault))
@@ -161,6 +170,27 @@ module _ (shard : ShardId) (a b d : Option History) (feed : IngestFeed) (compact
   ingested_not faults.MembersFull x =
       going_so shard a b (Begins shard feed (Err faults.MembersFull)) (Ingests shard feed compactors (Err faults.MembersFull)) x
       (λ list start es now bt f view at. absurd (f view at).0)
+
+-- where no crew has worked none is in
+start_accepted : (shard : ShardId) (list : List Update) (start : Stored) (es : List Entry) (view : View) → StartsAt shard list start es view →
+    accepted shard list start es ≡ view.collection.updates
+start_accepted shard list start es view (inl (none, empty, is)) = empty ∙ sym (ap (λ (v : View). v.collection.updates) is)
+start_accepted shard list start es view (inr (n, s, last, is)) = sym (ap (λ (v : View). v.collection.updates) is)
+
+pub none_taken : (shard : ShardId) (a b : Option History) (appends : List FeedAppend) → Goes shard a b (StaysAccepted shard) →
+    Goes shard a b (TakesFirst shard appends)
+none_taken shard a b appends went =
+    going_so shard a b (StaysAccepted shard) (TakesFirst shard appends) went (λ list start es now bt same view at.
+    let accepts : accepted shard list start now ≡ view.collection.updates ++ rows_of [] = same ∙ start_accepted shard list start es view at
+    ∙ sym (append-nil view.collection.updates) in (
+      [],
+      record {
+        rest = from_upper view.collection.upper appends;
+        split = refl;
+        accepts = accepts;
+        stands = accepted_stands shard list (view.collection.updates ++ rows_of []) start now bt.stands bt.lawful_now accepts;
+      },
+    ))
 
 -- ---- what is finished, with its text
 

@@ -22,12 +22,13 @@ use Rattle.ingest_text.specs.Feeds.{IsQuery}
 use Rattle.driving.specs.Goings.{Goes}
 use Rattle.driving.proofs.GoingLaws.{Between, going_so, more_going, no_going}
 use Rattle.plain_run.specs.declared.session_faults.SessionFault.{SessionFault}
+use Rattle.plain_run.specs.Drives.{StaysAccepted}
 use Rattle.plain_run.specs.PlainRuns.{View}
 use Rattle.plain_run.specs.Sessions.{ViewAt}
 use Rattle.plain_run.proofs.Views.{accepted_stands, view_accepted}
 use Rattle.ingest_run.specs.declared.faults.IngestFault.{IngestFault}
 use Rattle.ingest_run.specs.declared.faults.IngestFault.TheVariants as faults
-use Rattle.ingest_run.specs.Ends.{Crewed, Ends, FaultAt, Suits, Takes, TakesSome, Works}
+use Rattle.ingest_run.specs.Ends.{Crewed, Ends, FaultAt, Suits, Takes, TakesPast, TakesSome, Works}
 use Rattle.ingest_run.specs.PlainIngests.{appends_done}
 use Rattle.ingest_run.proofs.AskLaws.{same_run}
 use Rattle.ingest_run.proofs.CrewGoes.{seen_again, sees_collection, sees_reader}
@@ -164,6 +165,13 @@ module _ (plan : Plan) (reader : ℕ) where
     works_some list start es mid now b1 b2 crewed ended view v =
         let (next, at, grown) = seen_after list start es mid crewed view v in
         (grown.done, taken list start mid now view next b1.stands b2 at grown (ended next at))
+
+    -- the first few are in, whatever comes of what is done after the crew
+    pub works_takes : Goes plan.shard a b (Crewed plan) → Goes plan.shard b d (StaysAccepted plan.shard) →
+        Goes plan.shard a d (TakesPast plan.shard reader plan.appends)
+    works_takes x y =
+        more_going plan.shard a b d (Crewed plan) (StaysAccepted plan.shard) (TakesPast plan.shard reader plan.appends) x y
+        (λ list start es mid now b1 b2 crewed same. works_some list start es mid now b1 b2 crewed (λ view v. same))
 
     pub works : CompleteIsPlain → IsFeed plan.appends → AllByRecursion IsQuery queries → (reply : Result (List ℕ) IngestFault) →
         Goes plan.shard a b (Crewed plan) → Goes plan.shard b d (Ends plan.shard reader plan.appends queries compactors reply) →

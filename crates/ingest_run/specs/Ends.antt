@@ -187,6 +187,16 @@ TakesUpTo shard appends upper c list start now =
 abbrev pub TakesSome : ShardId → List FeedAppend → Collection → List Update → Stored → List Entry → Type 0
 TakesSome shard appends c list start now = (done : List FeedAppend) × Takes shard appends done c list start now
 
+-- whatever comes of it the first few are in, by the view of a reader that stood before
+abbrev pub TakesPast : ShardId → ℕ → List FeedAppend → List Update → Stored → List Entry → List Entry → Type 0
+TakesPast shard reader appends list start es now =
+    (view : View) → ViewAt shard list start es reader view → TakesSome shard appends view.collection list start now
+
+-- whatever comes of it the first few are in, by the view that it started from
+abbrev pub TakesFirst : ShardId → List FeedAppend → List Update → Stored → List Entry → List Entry → Type 0
+TakesFirst shard appends list start es now =
+    (view : View) → StartsAt shard list start es view → TakesSome shard appends view.collection list start now
+
 -- a crew has worked, and what is done after it: by the view of a reader that stood before, where the shard suited the appends
 abbrev pub Works : ShardId → ℕ → List FeedAppend → List FeedLine → ℕ → Result (List ℕ) IngestFault → List Update → Stored → List Entry →
     List Entry → Type 0

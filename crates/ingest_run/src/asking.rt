@@ -3,6 +3,7 @@ ghost use Rattle.std.specs.Prelude.{◌≡◌, ◌≤◌, Err, OnOk};
 ghost use Rattle.std.specs.List.{AllByRecursion};
 ghost use Rattle.driving.specs.StoreTurns.{StoreFailed};
 ghost use Rattle.driving.specs.Goings.{Goes, GrowsBy};
+ghost use Rattle.plain_run.specs.Drives.{StaysAccepted};
 ghost use Rattle.ingest_text.specs.Feeds.{IsQuery};
 ghost use Rattle.plain_run.specs.Answering.{ReaderReady, Replies, StillSettled, number_of};
 ghost use Rattle.plain_run.specs.PlainRuns.{reply_to};
@@ -27,6 +28,8 @@ fn ask<S: Store>(
     requires query { IsQuery query.now }
     ensures told { Goes place.shard (S.history port.old.store) (S.history port.new.store) (Replies place.shard (number_of reader.old) (λ view. reply_to view query.now) (λ view. view) result) }
     ensures still { OnOk result (Goes place.shard (S.history port.old.store) (S.history port.new.store) (StillSettled place.shard (number_of reader.old))) }
+    // On every result.
+    ensures keeps { Goes place.shard (S.history port.old.store) (S.history port.new.store) (StaysAccepted place.shard) }
     ensures by { OnOk result (GrowsBy place.reader (S.history port.old.store) (S.history port.new.store)) }
     ensures ready { OnOk result (ReaderReady place.shard place.reader (S.history port.new.store) reader.new) }
     ensures member { OnOk result (reader.new.member ≡ reader.old.member) }
@@ -52,6 +55,8 @@ fn ask_into<S: Store>(
     requires ready { ReaderReady place.shard place.reader (S.history port.old.store) reader.old }
     requires query { IsQuery query.now }
     ensures told { Goes place.shard (S.history port.old.store) (S.history port.new.store) (Asks place.shard (number_of reader.old) query.now text.old.items text.new.items result) }
+    // On every result.
+    ensures keeps { Goes place.shard (S.history port.old.store) (S.history port.new.store) (StaysAccepted place.shard) }
     ensures by { OnOk result (GrowsBy place.reader (S.history port.old.store) (S.history port.new.store)) }
     ensures ready { OnOk result (ReaderReady place.shard place.reader (S.history port.new.store) reader.new) }
     ensures member { OnOk result (reader.new.member ≡ reader.old.member) }
@@ -75,6 +80,8 @@ pub(crate) fn ask_all<S: Store>(
     requires ready { ReaderReady place.shard place.reader (S.history port.old.store) reader.old }
     requires queries { AllByRecursion IsQuery queries.now }
     ensures told { Goes place.shard (S.history port.old.store) (S.history port.new.store) (AsksAll place.shard (number_of reader.old) queries.now text.old.items text.new.items result) }
+    // On every result.
+    ensures keeps { Goes place.shard (S.history port.old.store) (S.history port.new.store) (StaysAccepted place.shard) }
     ensures by { OnOk result (GrowsBy place.reader (S.history port.old.store) (S.history port.new.store)) }
     ensures ready { OnOk result (ReaderReady place.shard place.reader (S.history port.new.store) reader.new) }
     ensures failed { result ≡ Err SessionFault.Store → StoreFailed (S.history port.new.store) (S.faults port.old.store) (S.faults port.new.store) }

@@ -2,6 +2,7 @@
 ghost use Rattle.std.specs.Prelude.{◌≡◌, ◌≤◌, Err, IfOk, OnOk};
 ghost use Rattle.driving.specs.StoreTurns.{StoreFailed};
 ghost use Rattle.driving.specs.Goings.{Goes, GrowsBy};
+ghost use Rattle.plain_run.specs.Drives.{StaysAccepted};
 ghost use Rattle.appends_core.specs.Feeds.{IsFeed};
 ghost use Rattle.plain_run.specs.Answering.{ReaderReady, number_of};
 ghost use Rattle.ingest_run.specs.declared.faults.IngestFault.TheVariants.{Outside};
@@ -28,6 +29,8 @@ fn take_since<S: Store>(
 ) -> Result<(), SessionFault>
     requires ready { ReaderReady place.shard place.reader (S.history port.old.store) reader.old }
     ensures told { Goes place.shard (S.history port.old.store) (S.history port.new.store) (Advances place.shard (number_of reader.old) since result) }
+    // On every result.
+    ensures keeps { Goes place.shard (S.history port.old.store) (S.history port.new.store) (StaysAccepted place.shard) }
     ensures by { OnOk result (GrowsBy place.reader (S.history port.old.store) (S.history port.new.store)) }
     ensures ready { OnOk result (ReaderReady place.shard place.reader (S.history port.new.store) reader.new) }
     ensures member { OnOk result (reader.new.member ≡ reader.old.member) }
@@ -50,6 +53,8 @@ fn join<S: Store>(
     moment: u64,
 ) -> Result<Reader, SessionFault>
     ensures told { Goes place.shard (S.history port.old.store) (S.history port.new.store) (Joins place.shard since result) }
+    // On every result.
+    ensures keeps { Goes place.shard (S.history port.old.store) (S.history port.new.store) (StaysAccepted place.shard) }
     ensures by { OnOk result (GrowsBy place.reader (S.history port.old.store) (S.history port.new.store)) }
     ensures ready { IfOk result (ReaderReady place.shard place.reader (S.history port.new.store)) }
     ensures failed { result ≡ Err SessionFault.Store → StoreFailed (S.history port.new.store) (S.faults port.old.store) (S.faults port.new.store) }
@@ -70,6 +75,8 @@ pub(crate) fn begin<S: Store>(
 ) -> Result<Reader, IngestFault>
     requires feed { IsFeed feed.now.appends }
     ensures told { Goes place.shard (S.history port.old.store) (S.history port.new.store) (Begins place.shard feed.now result) }
+    // On every result.
+    ensures keeps { Goes place.shard (S.history port.old.store) (S.history port.new.store) (StaysAccepted place.shard) }
     ensures by { OnOk result (GrowsBy place.reader (S.history port.old.store) (S.history port.new.store)) }
     ensures unfit { NoUpper result }
     ensures ready { IfOk result (ReaderReady place.shard place.reader (S.history port.new.store)) }

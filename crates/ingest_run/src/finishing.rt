@@ -3,6 +3,7 @@ ghost use Rattle.std.specs.Prelude.{◌≡◌, ◌≤◌, ℕ, Err, IfSome, OnOk
 ghost use Rattle.std.specs.List.{AllByRecursion};
 ghost use Rattle.driving.specs.StoreTurns.{StoreFailed};
 ghost use Rattle.driving.specs.Goings.{Goes, GrowsBy};
+ghost use Rattle.plain_run.specs.Drives.{StaysAccepted};
 ghost use Rattle.ingest_text.specs.Feeds.{IsQuery};
 ghost use Rattle.plain_run.specs.Answering.{Closed, ReaderReady, TendsTo, number_of};
 ghost use Rattle.ingest_run.specs.declared.faults.IngestFault.TheVariants.{Outside};
@@ -39,6 +40,8 @@ impl Finish {
     // What is due is merged, where there are compactors.
     fn merge<S: Store>(&self, alloc: Global, port: &mut SolePort<S>) -> Result<(), SessionFault>
         ensures told { (reader : ℕ) → Goes self.now.place.shard (S.history port.old.store) (S.history port.new.store) (TendsTo self.now.place.shard reader (SettlesBy self.now.place.shard self.now.compactors) result) }
+        // On every result.
+        ensures keeps { Goes self.now.place.shard (S.history port.old.store) (S.history port.new.store) (StaysAccepted self.now.place.shard) }
         ensures failed { result ≡ Err SessionFault.Store → StoreFailed (S.history port.new.store) (S.faults port.old.store) (S.faults port.new.store) }
         ensures later { S.faults port.old.store ≤ S.faults port.new.store }
     {
@@ -57,6 +60,8 @@ impl Finish {
     // What lies below the floor is collected, where there are collectors.
     fn collect<S: Store>(&self, alloc: Global, port: &mut SolePort<S>) -> Result<(), SessionFault>
         ensures told { Goes self.now.place.shard (S.history port.old.store) (S.history port.new.store) (Closed self.now.place.shard result) }
+        // On every result.
+        ensures keeps { Goes self.now.place.shard (S.history port.old.store) (S.history port.new.store) (StaysAccepted self.now.place.shard) }
         ensures failed { result ≡ Err SessionFault.Store → StoreFailed (S.history port.new.store) (S.faults port.old.store) (S.faults port.new.store) }
         ensures later { S.faults port.old.store ≤ S.faults port.new.store }
     {
@@ -77,6 +82,8 @@ impl Finish {
         requires ready { ReaderReady self.now.place.shard self.now.place.reader (S.history port.old.store) reader.old }
         requires pin { IfSome pin (IsIdle self.now.place.shard self.now.place.reader (S.history port.old.store)) }
         ensures told { Goes self.now.place.shard (S.history port.old.store) (S.history port.new.store) (Closed self.now.place.shard result) }
+        // On every result.
+        ensures keeps { Goes self.now.place.shard (S.history port.old.store) (S.history port.new.store) (StaysAccepted self.now.place.shard) }
         ensures failed { result ≡ Err SessionFault.Store → StoreFailed (S.history port.new.store) (S.faults port.old.store) (S.faults port.new.store) }
         ensures later { S.faults port.old.store ≤ S.faults port.new.store }
     {
@@ -99,6 +106,8 @@ impl Finish {
         requires pin { IfSome pin (IsIdle self.now.place.shard self.now.place.reader (S.history port.old.store)) }
         requires queries { AllByRecursion IsQuery queries.now }
         ensures told { Goes self.now.place.shard (S.history port.old.store) (S.history port.new.store) (Answers self.now.place.shard (number_of reader.old) queries.now text.old.items text.new.items result) }
+        // On every result.
+        ensures keeps { Goes self.now.place.shard (S.history port.old.store) (S.history port.new.store) (StaysAccepted self.now.place.shard) }
         ensures failed { result ≡ Err SessionFault.Store → StoreFailed (S.history port.new.store) (S.faults port.old.store) (S.faults port.new.store) }
         ensures later { S.faults port.old.store ≤ S.faults port.new.store }
     {
@@ -120,6 +129,8 @@ impl Finish {
         requires pin { IfSome pin (IsIdle self.now.place.shard self.now.place.reader (S.history port.old.store)) }
         requires queries { AllByRecursion IsQuery queries.now }
         ensures told { Goes self.now.place.shard (S.history port.old.store) (S.history port.new.store) (Reports self.now.place.shard (number_of reader.old) queries.now self.now.compactors text.old.items text.new.items result) }
+        // On every result.
+        ensures keeps { Goes self.now.place.shard (S.history port.old.store) (S.history port.new.store) (StaysAccepted self.now.place.shard) }
         ensures failed { result ≡ Err SessionFault.Store → StoreFailed (S.history port.new.store) (S.faults port.old.store) (S.faults port.new.store) }
         ensures later { S.faults port.old.store ≤ S.faults port.new.store }
     {
@@ -137,6 +148,8 @@ impl Finish {
         writers: u32,
     ) -> Result<(), IngestFault>
         ensures told { (reader : ℕ) → Goes self.now.place.shard (S.history port.old.store) (S.history port.new.store) (SeesEnd self.now.place.shard reader appends.now result) }
+        // On every result.
+        ensures keeps { Goes self.now.place.shard (S.history port.old.store) (S.history port.new.store) (StaysAccepted self.now.place.shard) }
         ensures by { OnOk result (GrowsBy self.now.place.reader (S.history port.old.store) (S.history port.new.store)) }
         ensures short { EndsShort self.now.place.reader writers ends.now result (S.history port.old.store) (S.history port.new.store) }
         ensures failed { result ≡ Err (Outside SessionFault.Store) → StoreFailed (S.history port.new.store) (S.faults port.old.store) (S.faults port.new.store) }
@@ -166,6 +179,8 @@ impl Finish {
         requires pin { IsPinOf self.now.place.shard self.now.place.reader (S.history port.old.store) pin }
         requires queries { AllByRecursion IsQuery queries.now }
         ensures told { (reader : ℕ) → Goes self.now.place.shard (S.history port.old.store) (S.history port.new.store) (Finishes self.now.place.shard reader appends.now queries.now self.now.compactors text.old.items text.new.items result) }
+        // On every result.
+        ensures keeps { Goes self.now.place.shard (S.history port.old.store) (S.history port.new.store) (StaysAccepted self.now.place.shard) }
         ensures short { EndsShort self.now.place.reader writers ends.now result (S.history port.old.store) (S.history port.new.store) }
         ensures failed { result ≡ Err (Outside SessionFault.Store) → StoreFailed (S.history port.new.store) (S.faults port.old.store) (S.faults port.new.store) }
         ensures later { S.faults port.old.store ≤ S.faults port.new.store }

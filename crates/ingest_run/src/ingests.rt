@@ -3,13 +3,14 @@ ghost use Rattle.std.specs.Prelude.{◌≡◌, ◌≤◌, ◌+◌, ℕ, IfSome, 
 ghost use Rattle.std.specs.List.{AllByRecursion};
 ghost use Rattle.driving.specs.Goings.{Goes};
 ghost use Rattle.driving.specs.StoreTurns.{EndsInFailure};
+ghost use Rattle.plain_run.specs.Drives.{StaysAccepted};
 ghost use Rattle.appends_core.specs.Feeds.{IsFeed};
 ghost use Rattle.ingest_text.specs.Feeds.{IsQuery};
 ghost use Rattle.ingest_run.specs.declared.faults.IngestFault.TheVariants.{Outside};
 ghost use Rattle.plain_run.specs.Answering.{ReaderReady, number_of};
 ghost use Rattle.crew.specs.Pinning.{IsPinOf};
 ghost use Rattle.crew.specs.Plans.{workers_of};
-ghost use Rattle.ingest_run.specs.Ends.{Ends, Ingests, Works, texts};
+ghost use Rattle.ingest_run.specs.Ends.{Ends, Ingests, TakesFirst, TakesPast, Works, texts};
 ghost use Rattle.ingest_run.specs.Halts.{EndsShort, HaltsShort};
 
 use crate::beginning::begin;
@@ -87,6 +88,7 @@ fn finished<S: Store>(
     requires pin { IsPinOf place.shard 0 (S.history end.store) end.pin }
     requires queries { AllByRecursion IsQuery queries.now }
     ensures told { (reader : ℕ) → Goes place.shard (S.history end.store) (S.history result.store) (Ends place.shard reader plan.now.appends queries.now plan.now.compactors (texts result.reply (λ text. text.items))) }
+    ensures keeps { Goes place.shard (S.history end.store) (S.history result.store) (StaysAccepted place.shard) }
     ensures short { EndsShort 0 plan.now.writers end.ends result.reply (S.history end.store) (S.history result.store) }
     ensures failed { result.reply ≡ Err (Outside SessionFault.Store) → IfSome (S.history result.store) EndsInFailure }
 {
@@ -141,6 +143,7 @@ fn worked<S: Store + Send, G: Gate + Sync, R: Threads + Wait + Sync>(
     requires few { workers_of plan.now ≤ 64 }
     requires queries { AllByRecursion IsQuery queries.now }
     ensures told { Goes place.shard (S.history store) (S.history result.store) (Works place.shard (number_of reader) plan.now.appends queries.now plan.now.compactors (texts result.reply (λ text. text.items))) }
+    ensures takes { Goes place.shard (S.history store) (S.history result.store) (TakesPast place.shard (number_of reader) plan.now.appends) }
     ensures halted { HaltsShort plan.now.writers plan.now.stops result.reply (S.history store) (S.history result.store) }
     ensures failed { result.reply ≡ Err (Outside SessionFault.Store) → IfSome (S.history result.store) EndsInFailure }
 {
@@ -172,6 +175,8 @@ pub fn ingest<S: Store + Send, G: Gate + Sync, R: Threads + Wait + Sync>(
     requires queries { AllByRecursion IsQuery feed.queries }
     requires few { size.writers + size.compactors + size.collectors ≤ 64 }
     ensures told { Goes shard (S.history store) (S.history result.store) (Ingests shard feed size.compactors (texts result.reply (λ text. text.items))) }
+    // However it ends, the first few of the appends are in, and no other.
+    ensures takes { Goes shard (S.history store) (S.history result.store) (TakesFirst shard feed.appends) }
     ensures halted { HaltsShort size.writers size.stops result.reply (S.history store) (S.history result.store) }
     ensures failed { result.reply ≡ Err (Outside SessionFault.Store) → IfSome (S.history result.store) EndsInFailure }
 {

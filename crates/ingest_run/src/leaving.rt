@@ -2,6 +2,7 @@
 ghost use Rattle.std.specs.Prelude.{◌≡◌, ◌≤◌, None, Err, IfSome, OnOk};
 ghost use Rattle.driving.specs.StoreTurns.{StoreFailed};
 ghost use Rattle.driving.specs.Goings.{Goes, GrowsBy};
+ghost use Rattle.plain_run.specs.Drives.{StaysAccepted};
 ghost use Rattle.plain_run.specs.Answering.{Closed};
 ghost use Rattle.ingest_run.specs.Idling.{IsIdle};
 
@@ -30,6 +31,8 @@ pub(crate) fn let_go<S: Store>(
 ) -> Result<(), SessionFault>
     requires idle { IsIdle place.shard place.reader (S.history port.old.store) reader.old }
     ensures told { Goes place.shard (S.history port.old.store) (S.history port.new.store) (Closed place.shard result) }
+    // On every result.
+    ensures keeps { Goes place.shard (S.history port.old.store) (S.history port.new.store) (StaysAccepted place.shard) }
     ensures by { OnOk result (GrowsBy place.reader (S.history port.old.store) (S.history port.new.store)) }
     ensures failed { result ≡ Err SessionFault.Store → StoreFailed (S.history port.new.store) (S.faults port.old.store) (S.faults port.new.store) }
     ensures later { S.faults port.old.store ≤ S.faults port.new.store }
@@ -51,6 +54,8 @@ pub(crate) fn let_some_go<S: Store>(
 ) -> Result<(), SessionFault>
     requires idle { IfSome reader (IsIdle place.shard place.reader (S.history port.old.store)) }
     ensures told { Goes place.shard (S.history port.old.store) (S.history port.new.store) (Closed place.shard result) }
+    // On every result.
+    ensures keeps { Goes place.shard (S.history port.old.store) (S.history port.new.store) (StaysAccepted place.shard) }
     ensures by { OnOk result (GrowsBy place.reader (S.history port.old.store) (S.history port.new.store)) }
     ensures failed { result ≡ Err SessionFault.Store → StoreFailed (S.history port.new.store) (S.faults port.old.store) (S.faults port.new.store) }
     ensures later { S.faults port.old.store ≤ S.faults port.new.store }

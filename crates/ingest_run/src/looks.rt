@@ -6,6 +6,7 @@ ghost use Rattle.machine_core.specs.Polling.{FollowsWhere};
 ghost use Rattle.try_machine.specs.Tryers.{IsSound, kept};
 ghost use Rattle.driving.specs.StoreTurns.{StoreFailed};
 ghost use Rattle.driving.specs.Goings.{Goes, GrowsBy};
+ghost use Rattle.plain_run.specs.Drives.{StaysAccepted};
 ghost use Rattle.ingest_run.specs.Looking.{Looks, extent_of, kept_look, looking, machine};
 
 use crate::extents::Extent;
@@ -82,6 +83,8 @@ pub(crate) fn look_at<S: Store>(
     place: Place,
 ) -> Result<Extent, SessionFault>
     ensures told { Goes place.shard (S.history port.old.store) (S.history port.new.store) (Looks place.shard result) }
+    // On every result.
+    ensures keeps { Goes place.shard (S.history port.old.store) (S.history port.new.store) (StaysAccepted place.shard) }
     ensures by { OnOk result (GrowsBy place.reader (S.history port.old.store) (S.history port.new.store)) }
     ensures failed { result ≡ Err SessionFault.Store → StoreFailed (S.history port.new.store) (S.faults port.old.store) (S.faults port.new.store) }
     ensures later { S.faults port.old.store ≤ S.faults port.new.store }

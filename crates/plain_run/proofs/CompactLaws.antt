@@ -39,10 +39,10 @@ module _ (shard : ShardId) (client : ℕ) where
           Between shard list start es now → Merged answer list start es now → OpensCompactor shard (compactor_let_in answer) c list start es now
       go (merges.Opened member version) is list start es now b x = λ reader view v.
           let (there, keeper) = keeper_opens shard client list start es now x.before x.entry x.calls b x.going x.own x.split reader view v moment lease
-          member version x.effect.0 x.effect.1 x.effect.2 x.legal in
+          member version x.effect.effect.0 x.effect.effect.1 x.effect.effect.2 x.legal in
           (there, subst (λ (m : Option ℕ). KeeperAt shard start now (unwrap_or m 0) 1) (sym is) keeper)
       go (merges.MembersFull version) is list start es now b x =
-          full shard client start es now x.before x.entry x.calls version x.going x.own x.split x.effect.1 x.legal
+          full shard client start es now x.before x.entry x.calls version x.going x.own x.split x.effect.effect.1 x.legal
       go (merges.Merged version) is list start es now b x = absurd x.legal
       go (merges.NothingDue version) is list start es now b x = absurd x.legal
       go (merges.Superseded version) is list start es now b x = absurd x.legal
@@ -69,15 +69,15 @@ module _ (shard : ShardId) (client : ℕ) where
             Merged answer list start es now → MergesNext shard number (merge_made answer) list start es now
         go (merges.Merged version) list start es now b x = λ reader least view v k.
             keeper_merges shard client list start es now x.before x.entry x.calls b x.going x.own x.split reader view v number least k token version
-            x.effect x.legal
+            x.effect.effect x.legal
         go (merges.NothingDue version) list start es now b x = λ reader least view v k.
             let (there, keeper, settled) = keeper_rests shard client list start es now x.before x.entry x.calls b x.going x.own x.split reader view v
-            number least k version x.effect x.legal in
+            number least k version x.effect.effect x.legal in
             (there, (keeper, settled))
         go (merges.Superseded version) list start es now b x = tt
         go (merges.Expired version) list start es now b x = λ reader least view v k.
             keeper_stays shard client list start es now x.before x.entry x.calls b x.going x.own x.split reader view v number least k version
-            x.effect x.legal
+            x.effect.effect x.legal
         go (merges.Opened member version) list start es now b x = absurd x.legal
         go (merges.MembersFull version) list start es now b x = absurd x.legal
         go (merges.Renewed version) list start es now b x = absurd x.legal
@@ -97,7 +97,7 @@ module _ (shard : ShardId) (client : ℕ) where
             Merged answer list start es now → LeavesKeeper shard number (Ok tt) list start es now
         go (merges.Closed version) list start es now b x = λ reader view v k.
             keeper_leaves shard client list start es now x.before x.entry x.calls b x.going x.own x.split reader view v number 1 k version
-            x.effect x.legal
+            x.effect.effect x.legal
         go (merges.Opened member version) list start es now b x = absurd x.legal
         go (merges.MembersFull version) list start es now b x = absurd x.legal
         go (merges.Merged version) list start es now b x = absurd x.legal

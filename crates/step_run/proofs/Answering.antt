@@ -64,7 +64,7 @@ reads_end k call r answer did failed = by answer did.effect
     by (reads.Expired version) x = none r x failed
 
 pub merges_end : EndsAnswered merge.machine
-merges_end k call r answer did failed = by answer did
+merges_end k call r answer did failed = by answer did.effect
   where
     by : (a : MergeAnswer) → merging.Effect k.shard call r (polls.Done a) → ⊥
     by (merges.Opened member version) x = commits k.shard x.0 call r x.1 failed

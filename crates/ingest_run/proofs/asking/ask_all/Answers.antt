@@ -10,12 +10,14 @@ use Rattle.plain_run.specs.declared.session_faults.SessionFault.{SessionFault}
 use Rattle.plain_run.specs.Answering.{number_of}
 use Rattle.ingest_run.specs.Ends.{Asks, AsksAll}
 use Rattle.ingest_run.proofs.AskLaws.{AsksSome, next_question, same_number, some_all, some_more, some_not, some_starts}
+use Rattle.plain_run.proofs.Appendless.{more_stays, nothing_stays}
 use Rattle.ingest_run.proofs.asking.ask_all.Goals as goal
 
 pub loop-query-init : goal.loop-query-init
 loop-query-init g c = record {
   told = some_starts c.args.place.shard (number_of c.args.reader.now) (g.S.Store.history c.args.port.now.store) c.args.queries.now
       c.args.text.now.items;
+  keeps = nothing_stays c.args.place.shard (g.S.Store.history c.args.port.now.store);
   by = grows_none c.args.place.reader (g.S.Store.history c.args.port.now.store);
   ready = c.requires.ready;
   member = refl;
@@ -44,6 +46,7 @@ loop-query-preserved g c =
       told = some_more shard n a b d qs (drop (i + 1) qs) q t u v all.0
           (subst (λ (left : List FeedLine). Goes shard a b (AsksSome shard n qs left t u)) next inv.told)
           (subst (λ (m : ℕ). Goes shard b d (Asks shard m q u v (Ok tt))) same c.in_ok-ask_into.ensures.told);
+      keeps = more_stays shard a b d inv.keeps c.ask_into.ensures.keeps;
       by = grows_more c.args.place.reader a b d inv.by c.in_ok-ask_into.ensures.by;
       ready = c.in_ok-ask_into.ensures.ready;
       member = c.in_ok-ask_into.ensures.member ∙ inv.member;
@@ -77,3 +80,12 @@ returns-clause-told g c =
     some_all c.args.place.shard (number_of c.args.reader.now) (g.S.Store.history c.args.port.now.store)
     (g.S.Store.history c.loop-query.port.store) c.args.queries.now (drop c.loop-query.query-index c.args.queries.now) c.args.text.now.items
     c.loop-query.text.items (drop_all c.loop-query.query-index c.args.queries.now c.loop-query-test.false) c.loop-query.invariant.told
+
+pub returns-in_err-ask_into-clause-keeps : goal.returns-in_err-ask_into-clause-keeps
+returns-in_err-ask_into-clause-keeps g c =
+    more_stays c.args.place.shard (g.S.Store.history c.args.port.now.store) (g.S.Store.history c.loop-query.port.store) (g.S.Store.history c.ask_into.new.port.store) c.loop-query.invariant.keeps
+    c.ask_into.ensures.keeps
+
+pub returns-clause-keeps : goal.returns-clause-keeps
+returns-clause-keeps g c =
+    c.loop-query.invariant.keeps

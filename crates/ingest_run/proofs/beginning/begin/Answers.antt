@@ -8,6 +8,7 @@ use Rattle.ingest_run.specs.declared.faults.IngestFault.{IngestFault}
 use Rattle.ingest_run.specs.Bounds.{SuitsFeed, Unsuited}
 use Rattle.ingest_run.specs.Ends.{Begins}
 use Rattle.ingest_run.proofs.BeginLaws.{begun, begun_not, begun_unfit}
+use Rattle.plain_run.proofs.Appendless.{more_stays}
 use Rattle.ingest_run.proofs.beginning.begin.Goals as goal
 
 pub returns-in_err-extent-clause-told : goal.returns-in_err-extent-clause-told
@@ -54,3 +55,11 @@ pub returns-clause-by : goal.returns-clause-by
 returns-clause-by g c =
     grows_more c.args.place.reader (g.S.Store.history c.args.port.now.store) (g.S.Store.history c.look_at.new.port.store)
     (g.S.Store.history c.join.new.port.store) c.in_ok-extent.ensures.by c.in_ok-reader.ensures.by
+
+pub returns-in_err-reader-clause-keeps : goal.returns-in_err-reader-clause-keeps
+returns-in_err-reader-clause-keeps g c =
+    more_stays c.args.place.shard (g.S.Store.history c.args.port.now.store) (g.S.Store.history c.look_at.new.port.store) (g.S.Store.history c.join.new.port.store) c.look_at.ensures.keeps c.join.ensures.keeps
+
+pub returns-clause-keeps : goal.returns-clause-keeps
+returns-clause-keeps g c =
+    more_stays c.args.place.shard (g.S.Store.history c.args.port.now.store) (g.S.Store.history c.look_at.new.port.store) (g.S.Store.history c.join.new.port.store) c.look_at.ensures.keeps c.join.ensures.keeps

@@ -5,6 +5,7 @@ use Rattle.driving.proofs.GoingLaws.{grows_more}
 use Rattle.plain_run.specs.declared.session_faults.SessionFault.{SessionFault}
 use Rattle.ingest_run.specs.Ends.{Joins}
 use Rattle.ingest_run.proofs.BeginLaws.{joined, joined_not}
+use Rattle.plain_run.proofs.Appendless.{more_stays}
 use Rattle.ingest_run.proofs.beginning.join.Goals as goal
 
 pub returns-in_err-reader-clause-told : goal.returns-in_err-reader-clause-told
@@ -37,3 +38,11 @@ pub returns-clause-by : goal.returns-clause-by
 returns-clause-by g c =
     grows_more c.args.place.reader (g.S.Store.history c.args.port.now.store) (g.S.Store.history c.open_reader.new.port.store)
     (g.S.Store.history c.take_since.new.port.store) c.in_ok-reader.ensures.by c.in_ok-take_since.ensures.by
+
+pub returns-in_err-take_since-clause-keeps : goal.returns-in_err-take_since-clause-keeps
+returns-in_err-take_since-clause-keeps g c =
+    more_stays c.args.place.shard (g.S.Store.history c.args.port.now.store) (g.S.Store.history c.open_reader.new.port.store) (g.S.Store.history c.take_since.new.port.store) c.open_reader.ensures.keeps c.take_since.ensures.keeps
+
+pub returns-clause-keeps : goal.returns-clause-keeps
+returns-clause-keeps g c =
+    more_stays c.args.place.shard (g.S.Store.history c.args.port.now.store) (g.S.Store.history c.open_reader.new.port.store) (g.S.Store.history c.take_since.new.port.store) c.open_reader.ensures.keeps c.take_since.ensures.keeps

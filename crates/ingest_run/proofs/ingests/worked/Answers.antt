@@ -3,11 +3,12 @@ use Rattle.store_core.specs.declared.shards.ShardId.{ShardId}
 use Rattle.driving.specs.Goings.{Goes}
 use Rattle.plain_run.specs.Answering.{ReaderReady, number_of}
 use Rattle.ingest_run.specs.declared.faults.IngestFault.TheVariants as faults
-use Rattle.ingest_run.specs.Ends.{Ends, Works, texts}
+use Rattle.ingest_run.specs.Ends.{Ends, TakesPast, Works, texts}
 use Rattle.ingest_run.proofs.CrewGoes.{crew_goes}
 use Rattle.ingest_run.proofs.IdleReaders.{pin_after, pin_of}
 use Rattle.ingest_run.proofs.HaltLaws.{crew_halts_short, enough_ends}
-use Rattle.ingest_run.proofs.WorkLaws.{works, works_not}
+use Rattle.ingest_run.proofs.WorkLaws.{works, works_not, works_takes}
+use Rattle.plain_run.specs.Drives.{StaysAccepted}
 use Rattle.ingest_run.proofs.ingests.worked.Goals as goal
 
 pub run_crew-requires-clause-pin : goal.run_crew-requires-clause-pin
@@ -54,3 +55,23 @@ returns-in-Ok-clause-halted g c =
     let es = c.in-Ok.end.ends in
     crew_halts_short plan (g.S.Store.history c.args.store) (g.S.Store.history c.in-Ok.end.store) (g.S.Store.history c.finished.result.store) es
     c.finished.result.reply c.in-Ok.ensures.ran c.in-Ok.ensures.ends (enough_ends plan es c.in-Ok.ensures.workers) c.finished.ensures.short
+
+pub returns-in-Ok-clause-takes : goal.returns-in-Ok-clause-takes
+returns-in-Ok-clause-takes g c =
+    let plan = c.args.plan.now in
+    let a = g.S.Store.history c.args.store in
+    let b = g.S.Store.history c.in-Ok.end.store in
+    let d = g.S.Store.history c.finished.result.store in
+    let n = number_of c.args.reader in
+    subst (λ (s : ShardId). Goes s a d (TakesPast s n plan.appends)) c.requires.here
+    (works_takes plan n a b d c.args.queries.now plan.compactors (crew_goes plan a b c.in-Ok.ensures.ran)
+    (subst (λ (s : ShardId). Goes s b d (StaysAccepted s)) (sym c.requires.here) c.finished.ensures.keeps))
+
+pub returns-in-Err-clause-takes : goal.returns-in-Err-clause-takes
+returns-in-Err-clause-takes g c =
+    let plan = c.args.plan.now in
+    let a = g.S.Store.history c.args.store in
+    let n = number_of c.args.reader in
+    subst (λ store. Goes c.args.place.shard a (g.S.Store.history store) (TakesPast c.args.place.shard n plan.appends))
+    (sym c.in-Err.ensures.memory.0)
+    (subst (λ (s : ShardId). Goes s a a (TakesPast s n plan.appends)) c.requires.here (works_not plan n a c.args.queries.now plan.compactors))

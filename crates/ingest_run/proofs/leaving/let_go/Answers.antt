@@ -1,4 +1,4 @@
-use Rattle.std.proofs.Common.{◌∙◌}
+use Rattle.std.proofs.Common.{subst, ◌∙◌}
 use Rattle.std.proofs.lemmas.Result.{err_from_is_err_and}
 use Rattle.state_core.specs.declared.transitions.Transition.TheVariants.{Leave}
 use Rattle.history_core.specs.declared.asked.Asked.TheVariants as asks
@@ -8,6 +8,9 @@ use Rattle.plain_run.proofs.DriveLaws.{drive_answers, drive_fails}
 use Rattle.plain_run.proofs.ReadLaws.{leaves_reader}
 use Rattle.plain_run.proofs.ReplyLaws.{asked_told, change_begun}
 use Rattle.ingest_run.proofs.IdleReaders.{closing_shard, joined_ready}
+use Rattle.store_core.specs.declared.shards.ShardId.{ShardId}
+use Rattle.read_client.specs.Reading.{shard_of}
+use Rattle.plain_run.proofs.Appendless.{AppendsNone, drive_stays, reader_free}
 use Rattle.ingest_run.proofs.leaving.let_go.Goals as goal
 
 pub drive-requires-clause-keeps : goal.drive-requires-clause-keeps
@@ -40,3 +43,19 @@ returns-clause-told g c =
     leaves_reader place.shard place.reader a d begun.0.number old.listen (Leave begun.0.number) answer
     (asked_told place a d old new old.listen asks.CloseReader (Leave begun.0.number) answer begun.0 begun.1
     (drive_answers place.shard machine place.reader (kept new) own a d answer c.in_ok-_answer.ensures.told))
+
+pub returns-in_err-_answer-clause-keeps : goal.returns-in_err-_answer-clause-keeps
+returns-in_err-_answer-clause-keeps g c =
+    let new = c.begin_close.new.self in
+    let own = closing_shard c.args.reader.now new c.in-Ok.ensures.begins.1 ∙ c.requires.idle.shard in
+    drive_stays machine (kept new) c.args.place.shard
+    (λ call r poll did. subst (λ (s : ShardId). AppendsNone s call) own (reader_free (shard_of new) call did.readers))
+    c.args.place.reader (g.S.Store.history c.args.port.now.store) (g.S.Store.history c.drive.new.port.store) _ own c.drive.ensures.told c.drive.ensures.calls
+
+pub returns-clause-keeps : goal.returns-clause-keeps
+returns-clause-keeps g c =
+    let new = c.begin_close.new.self in
+    let own = closing_shard c.args.reader.now new c.in-Ok.ensures.begins.1 ∙ c.requires.idle.shard in
+    drive_stays machine (kept new) c.args.place.shard
+    (λ call r poll did. subst (λ (s : ShardId). AppendsNone s call) own (reader_free (shard_of new) call did.readers))
+    c.args.place.reader (g.S.Store.history c.args.port.now.store) (g.S.Store.history c.drive.new.port.store) _ own c.drive.ensures.told c.drive.ensures.calls

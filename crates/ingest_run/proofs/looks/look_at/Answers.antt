@@ -10,6 +10,9 @@ use Rattle.plain_run.proofs.DriveLaws.{drive_answers, drive_fails}
 use Rattle.ingest_run.specs.Looking.{looking, machine}
 use Rattle.ingest_run.proofs.LookLaws.{looks}
 use Rattle.ingest_run.proofs.LookRule.{ending, keeps}
+use Rattle.state_core.specs.declared.transitions.Transition.TheVariants.{Init}
+use Rattle.load_core.specs.Runs.{OnlyCarries}
+use Rattle.plain_run.proofs.Appendless.{carries_none, drive_stays}
 use Rattle.ingest_run.proofs.looks.look_at.Goals as goal
 
 pub drive-requires-clause-keeps : goal.drive-requires-clause-keeps
@@ -49,3 +52,17 @@ returns-clause-told g c =
 pub drive-requires-clause-follows : goal.drive-requires-clause-follows
 drive-requires-clause-follows g c =
     c.begun_look-looker.ensures.follows c.args.place.reader (g.S.Store.history c.args.port.now.store)
+
+pub returns-in_err-extent-clause-keeps : goal.returns-in_err-extent-clause-keeps
+returns-in_err-extent-clause-keeps g c =
+    let k_is = c.begun_look-looker.ensures.kept in
+    drive_stays machine (kept looking c.begun_look-looker.result) c.args.place.shard
+    (λ call r poll did. carries_none c.args.place.shard Init call tt (subst (λ (k : TryKept ⊤). OnlyCarries k.shard k.step call) k_is did.carries))
+    c.args.place.reader (g.S.Store.history c.args.port.now.store) (g.S.Store.history c.drive.new.port.store) _ (ap (λ (k : TryKept ⊤). k.shard) k_is) c.drive.ensures.told c.drive.ensures.calls
+
+pub returns-clause-keeps : goal.returns-clause-keeps
+returns-clause-keeps g c =
+    let k_is = c.begun_look-looker.ensures.kept in
+    drive_stays machine (kept looking c.begun_look-looker.result) c.args.place.shard
+    (λ call r poll did. carries_none c.args.place.shard Init call tt (subst (λ (k : TryKept ⊤). OnlyCarries k.shard k.step call) k_is did.carries))
+    c.args.place.reader (g.S.Store.history c.args.port.now.store) (g.S.Store.history c.drive.new.port.store) _ (ap (λ (k : TryKept ⊤). k.shard) k_is) c.drive.ensures.told c.drive.ensures.calls

@@ -6,6 +6,7 @@ use Rattle.plain_run.specs.Answering.{number_of}
 use Rattle.ingest_run.specs.Ends.{Answers, AsksAll}
 use Rattle.ingest_run.proofs.FinishLaws.{answered}
 use Rattle.ingest_run.proofs.IdleReaders.{some_idle_past}
+use Rattle.plain_run.proofs.Appendless.{more_stays}
 use Rattle.ingest_run.proofs.finishing.Finish.answer.Goals as goal
 
 pub leave-requires-clause-pin : goal.leave-requires-clause-pin
@@ -30,3 +31,7 @@ returns-clause-told g c =
     answered c.args.self.now.place.shard (g.S.Store.history c.args.port.now.store) (g.S.Store.history c.ask_all.new.port.store)
     (g.S.Store.history c.leave.new.port.store) (number_of c.args.reader.now) c.args.queries.now c.args.text.now.items c.ask_all.new.text.items
     c.leave.result c.in_ok-ask_all.ensures.told c.leave.ensures.told
+
+pub returns-clause-keeps : goal.returns-clause-keeps
+returns-clause-keeps g c =
+    more_stays c.args.self.now.place.shard (g.S.Store.history c.args.port.now.store) (g.S.Store.history c.ask_all.new.port.store) (g.S.Store.history c.leave.new.port.store) c.ask_all.ensures.keeps c.leave.ensures.keeps

@@ -6,6 +6,7 @@ use Rattle.plain_run.specs.Answering.{Closed}
 use Rattle.plain_run.specs.Drives.{Failed}
 use Rattle.plain_run.proofs.ReplyLaws.{closes}
 use Rattle.ingest_run.proofs.IdleReaders.{some_idle_past}
+use Rattle.plain_run.proofs.Appendless.{more_stays}
 use Rattle.ingest_run.proofs.finishing.Finish.leave.Goals as goal
 
 pub let_some_go-requires : goal.let_some_go-requires
@@ -42,3 +43,12 @@ returns-clause-told g c =
     let d = g.S.Store.history c.let_some_go.new.port.store in
     closes c.args.self.now.place a d (g.S.Store.history c.collect.new.port.store) c.collect.result
     (closes c.args.self.now.place a b d (Ok tt) c.in_ok-close_reader.ensures.told c.in_ok-let_some_go.ensures.told) c.collect.ensures.told
+
+pub returns-in_err-let_some_go-clause-keeps : goal.returns-in_err-let_some_go-clause-keeps
+returns-in_err-let_some_go-clause-keeps g c =
+    more_stays c.args.self.now.place.shard (g.S.Store.history c.args.port.now.store) (g.S.Store.history c.close_reader.new.port.store) (g.S.Store.history c.let_some_go.new.port.store) c.close_reader.ensures.keeps c.let_some_go.ensures.keeps
+
+pub returns-clause-keeps : goal.returns-clause-keeps
+returns-clause-keeps g c =
+    more_stays c.args.self.now.place.shard (g.S.Store.history c.args.port.now.store) (g.S.Store.history c.let_some_go.new.port.store) (g.S.Store.history c.collect.new.port.store)
+    (more_stays c.args.self.now.place.shard (g.S.Store.history c.args.port.now.store) (g.S.Store.history c.close_reader.new.port.store) (g.S.Store.history c.let_some_go.new.port.store) c.close_reader.ensures.keeps c.let_some_go.ensures.keeps) c.collect.ensures.keeps

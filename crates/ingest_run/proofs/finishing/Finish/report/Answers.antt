@@ -7,6 +7,7 @@ use Rattle.ingest_run.specs.Ends.{Reports, SettlesBy}
 use Rattle.ingest_run.proofs.FaultLaws.{tends_fault}
 use Rattle.ingest_run.proofs.FinishLaws.{reported}
 use Rattle.ingest_run.proofs.IdleReaders.{idle_ready, some_idle_past}
+use Rattle.plain_run.proofs.Appendless.{more_stays}
 use Rattle.ingest_run.proofs.finishing.Finish.report.Goals as goal
 
 pub answer-requires-clause-ready : goal.answer-requires-clause-ready
@@ -43,3 +44,7 @@ returns-clause-told g c =
     reported c.args.self.now.place.shard (g.S.Store.history c.args.port.now.store) (g.S.Store.history c.merge.new.port.store)
     (g.S.Store.history c.answer.new.port.store) n c.args.self.now.compactors c.args.queries.now c.args.text.now.items c.answer.new.text.items
     c.answer.result (c.in_ok-merge.ensures.told n) c.answer.ensures.told
+
+pub returns-clause-keeps : goal.returns-clause-keeps
+returns-clause-keeps g c =
+    more_stays c.args.self.now.place.shard (g.S.Store.history c.args.port.now.store) (g.S.Store.history c.merge.new.port.store) (g.S.Store.history c.answer.new.port.store) c.merge.ensures.keeps c.answer.ensures.keeps

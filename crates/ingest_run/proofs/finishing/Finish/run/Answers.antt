@@ -8,6 +8,7 @@ use Rattle.ingest_run.specs.declared.faults.IngestFault.TheVariants as faults
 use Rattle.plain_run.specs.declared.session_faults.SessionFault.TheVariants as outside
 use Rattle.ingest_run.proofs.FinishLaws.{err_is, finished_all, finished_not, finished_unjoined, resumed, verdict_ends, verdict_inside, verdict_no_upper}
 use Rattle.ingest_run.proofs.IdleReaders.{kept_idle, some_idle_past}
+use Rattle.plain_run.proofs.Appendless.{more_stays, nothing_stays}
 use Rattle.ingest_run.proofs.finishing.Finish.run.Goals as goal
 
 pub report-requires-clause-pin : goal.report-requires-clause-pin
@@ -97,3 +98,21 @@ returns-in_err-crew_verdict-clause-short g c = λ upper is.
     let p = err_from_is_err_and c.from_residual.result c.from_residual.ensures.1 in
     absurd (verdict_no_upper c.args.ends.now c.in_err-crew_verdict.field-0.0 upper (sym c.crew_verdict.ensures ∙ c.in_err-crew_verdict.was)
     (sym p.2 ∙ err_is p.0 (faults.Upper upper) (sym p.1 ∙ is)))
+
+pub returns-in_err-crew_verdict-clause-keeps : goal.returns-in_err-crew_verdict-clause-keeps
+returns-in_err-crew_verdict-clause-keeps g c =
+    nothing_stays c.args.self.now.place.shard (g.S.Store.history c.args.port.now.store)
+
+pub returns-in_err-reader-clause-keeps : goal.returns-in_err-reader-clause-keeps
+returns-in_err-reader-clause-keeps g c =
+    more_stays c.args.self.now.place.shard (g.S.Store.history c.args.port.now.store) (g.S.Store.history c.see_end.new.port.store) (g.S.Store.history c.open_reader.new.port.store) c.see_end.ensures.keeps c.open_reader.ensures.keeps
+
+pub returns-in_err-report-clause-keeps : goal.returns-in_err-report-clause-keeps
+returns-in_err-report-clause-keeps g c =
+    more_stays c.args.self.now.place.shard (g.S.Store.history c.args.port.now.store) (g.S.Store.history c.open_reader.new.port.store) (g.S.Store.history c.report.new.port.store)
+    (more_stays c.args.self.now.place.shard (g.S.Store.history c.args.port.now.store) (g.S.Store.history c.see_end.new.port.store) (g.S.Store.history c.open_reader.new.port.store) c.see_end.ensures.keeps c.open_reader.ensures.keeps) c.report.ensures.keeps
+
+pub returns-clause-keeps : goal.returns-clause-keeps
+returns-clause-keeps g c =
+    more_stays c.args.self.now.place.shard (g.S.Store.history c.args.port.now.store) (g.S.Store.history c.open_reader.new.port.store) (g.S.Store.history c.report.new.port.store)
+    (more_stays c.args.self.now.place.shard (g.S.Store.history c.args.port.now.store) (g.S.Store.history c.see_end.new.port.store) (g.S.Store.history c.open_reader.new.port.store) c.see_end.ensures.keeps c.open_reader.ensures.keeps) c.report.ensures.keeps
