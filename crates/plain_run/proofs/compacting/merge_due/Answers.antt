@@ -84,3 +84,8 @@ pub returns-then-not-made-clause-keeps : goal.returns-then-not-made-clause-keeps
 returns-then-not-made-clause-keeps g c =
     more_stays c.args.shard (g.S.Store.history c.args.port.now.store) (g.S.Store.history c.loop.port.store)
     (g.S.Store.history c.merge_next.new.port.store) c.loop.invariant.keeps c.merge_next.ensures.keeps
+
+pub returns-then-not-made-clause-by : goal.returns-then-not-made-clause-by
+returns-then-not-made-clause-by g c =
+    grows_more c.args.client (g.S.Store.history c.args.port.now.store) (g.S.Store.history c.loop.port.store)
+    (g.S.Store.history c.merge_next.new.port.store) c.loop.invariant.by c.in_ok-made.ensures.by
