@@ -13,3 +13,4 @@ pub mod Knowing
 pub mod Damages
 pub mod Asking
 pub mod Proposals
+pub mod Costing
