@@ -52,7 +52,7 @@ pair_same m n k l e is other =
     let there : l.0 ≡ n = first ∙ is in
     let a : (l.0 == m) ≡ false = apart l.0 m (λ h. other (sym there ∙ h)) in
     let b : (k.0 == m) ≡ false = apart k.0 m (λ h. other (sym is ∙ h)) in
-    let same : l.1 ≡ k.1 = rw (a, b) at rest in rest in
+    let same : l.1 ≡ k.1 = rw (a, b) at rest in
     (there, same)
 
 heads : (x y : ℕ × List Entry) (xs ys : List (ℕ × List Entry)) → x ∷ xs ≡ y ∷ ys → (x ≡ y) × (xs ≡ ys)
@@ -73,7 +73,7 @@ module _ (m n : ℕ) (old new : List Entry) (other : n ≢ m) where
             ap (λ (i : ℕ). entries_by entry_client i new) (sym pair.0) ∙ b.0 ∙ pair.1 ∙ sym a.0
             ∙ ap (λ (i : ℕ). entries_by entry_client i old) is
         | inr not_here ↦
-            let later : 0 < once false + times n ks = rw not_here at t in t in
+            let later : 0 < once false + times n ks = rw not_here at t in
             seen_same ks ls both.1 a.1 b.1 later
       ]
 
