@@ -2,9 +2,8 @@
 ghost use Rattle.std.specs.Prelude.{◌≡◌, IfOk};
 ghost use Rattle.turnstile.specs.Passes.{IsPassOf, view};
 ghost use Rattle.shared_store.specs.Fronts.{front_of};
-ghost use Rattle.shared_store.specs.Passes.{told_of};
+ghost use Rattle.shared_store.specs.Passes.{kept_view, told_of};
 ghost use Rattle.shared_store.specs.Trails.{entry_client};
-ghost use Rattle.crew.specs.Posts.{SamePass};
 ghost use Rattle.reclock_run.specs.Ports.{others_of};
 ghost use Rattle.reclock_run.specs.Working.{IsReady, Worked};
 
@@ -43,8 +42,7 @@ pub fn mint_alone<S: Store, G: Gate, R: Wait>(
     requires pass { IsPassOf told_of entry_client turnstile.now pass }
     requires ready { IsReady (view pass).number (front_of S.history (view pass)) operator.old }
     ensures pass { IsPassOf told_of entry_client turnstile.now result.pass }
-    ensures same { SamePass (view pass) (view result.pass) }
-    ensures stock { (view result.pass).stock ≡ (view pass).stock }
+    ensures same { kept_view (view result.pass) ≡ kept_view (view pass) }
     ensures others { others_of (view result.pass) ≡ others_of (view pass) }
     ensures worked { Worked (view pass).number (front_of S.history (view pass)) (front_of S.history (view result.pass)) operator.old operator.new }
     ensures ready { IfOk result.end (λ _. IsReady (view pass).number (front_of S.history (view result.pass)) operator.new) }
@@ -74,8 +72,7 @@ pub fn publish_alone<S: Store, G: Gate, R: Wait>(
     requires pass { IsPassOf told_of entry_client turnstile.now pass }
     requires ready { IsReady (view pass).number (front_of S.history (view pass)) operator.old }
     ensures pass { IsPassOf told_of entry_client turnstile.now result.pass }
-    ensures same { SamePass (view pass) (view result.pass) }
-    ensures stock { (view result.pass).stock ≡ (view pass).stock }
+    ensures same { kept_view (view result.pass) ≡ kept_view (view pass) }
     ensures others { others_of (view result.pass) ≡ others_of (view pass) }
     ensures worked { Worked (view pass).number (front_of S.history (view pass)) (front_of S.history (view result.pass)) operator.old operator.new }
     ensures ready { IfOk result.end (λ _. IsReady (view pass).number (front_of S.history (view result.pass)) operator.new) }

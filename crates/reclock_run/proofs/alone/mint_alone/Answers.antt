@@ -1,27 +1,16 @@
-use Rattle.std.proofs.Common.{◌≡◌, ℕ, List, sym, ap, subst, ◌∙◌}
+use Rattle.std.proofs.Common.{ap, ◌∙◌}
 use Rattle.turnstile.specs.declared.views.View.{View}
-use Rattle.turnstile.specs.Passes.{view}
 use Rattle.store_core.specs.declared.entries.Entry.{Entry}
-use Rattle.shared_store.specs.Passes.{PassKept, PortKept, PortValue}
-use Rattle.crew.specs.Posts.{SamePass}
-use Rattle.crew.proofs.PortKeeping.{kept_pass}
+use Rattle.shared_store.specs.Passes.{PortValue, kept_view}
 use Rattle.reclock_run.specs.Ports.{OperatorKept, others_of}
 use Rattle.reclock_run.proofs.alone.mint_alone.Goals as goal
 
 pub returns-clause-same : goal.returns-clause-same
 returns-clause-same g c =
-    let first : c.at-port.result.known ≡ view c.args.pass =
-    ap (λ (p : PortValue _). p.known) c.at-port.ensures ∙ c.at.ensures.known in
-    subst (λ (v : View _ Entry). SamePass v (view c.back.result)) first
-    (subst (λ (w : View _ Entry). SamePass c.at-port.result.known w) (sym c.back.ensures.known)
-    (kept_pass c.at-port.result c.open_and_mint-end.new.port (ap (λ (k : OperatorKept _). k.port) c.open_and_mint-end.ensures.kept)))
-
-pub returns-clause-stock : goal.returns-clause-stock
-returns-clause-stock g c =
-    ap (λ (v : View _ Entry). v.stock) c.back.ensures.known
-    ∙ ap (λ (k : OperatorKept _). k.port.pass.stock) c.open_and_mint-end.ensures.kept
-    ∙ ap (λ (p : PortValue _). p.known.stock) c.at-port.ensures
-    ∙ ap (λ (v : View _ Entry). v.stock) c.at.ensures.known
+    ap (λ (v : View _ Entry). kept_view v) c.back.ensures.known
+    ∙ ap (λ (k : OperatorKept _). k.port.pass) c.open_and_mint-end.ensures.kept
+    ∙ ap (λ (p : PortValue _). kept_view p.known) c.at-port.ensures
+    ∙ ap (λ (v : View _ Entry). kept_view v) c.at.ensures.known
 
 pub returns-clause-others : goal.returns-clause-others
 returns-clause-others g c =
