@@ -7,6 +7,7 @@ mod operator_ends;
 mod operator_ports;
 mod printing;
 mod reclock_faults;
+mod rounds;
 mod seats;
 mod tasks;
 mod working;
