@@ -16,6 +16,7 @@ use crate::faults::IngestFault;
 use crate::finishing::Finish;
 use crate::sizes::CrewSize;
 use appends_core::AppendList;
+use causes::NumberList;
 use crew::{CrewEnd, Gate, Plan, run_crew};
 use crew_core::laws::complete_is_plain;
 use driving::SolePort;
@@ -49,7 +50,7 @@ fn place_of(shard: ShardId) -> Place
 }
 
 // What a crew of this size is to do.
-fn plan_of(shard: ShardId, appends: AppendList, size: CrewSize) -> Plan
+fn plan_of(alloc: Global, shard: ShardId, appends: AppendList, size: CrewSize) -> Plan
     ensures shard { result.shard ≡ shard }
     ensures appends { result.appends ≡ appends }
     ensures workers { workers_of result ≡ size.writers + size.compactors + size.collectors }
@@ -64,6 +65,7 @@ fn plan_of(shard: ShardId, appends: AppendList, size: CrewSize) -> Plan
     Plan {
         shard,
         appends,
+        listens: NumberList::new(alloc),
         writers,
         compactors,
         collectors,
@@ -86,7 +88,12 @@ fn finished<S: Store>(
     ensures told { (reader : ℕ) → Goes place.shard (S.history end.store) (S.history result.store) (Ends place.shard reader plan.now.appends queries.now plan.now.compactors (texts result.reply (λ text. text.items))) }
     ensures failed { result.reply ≡ Err (Outside SessionFault.Store) → IfSome (S.history result.store) EndsInFailure }
 {
-    let CrewEnd { store, pin, ends } = end;
+    let CrewEnd {
+        store,
+        pin,
+        ends,
+        heard: _,
+    } = end;
     let finish = Finish {
         place,
         moment,
@@ -180,7 +187,7 @@ pub fn ingest<S: Store + Send, G: Gate + Sync, R: Threads + Wait + Sync>(
                 queries,
                 ..
             } = feed;
-            let plan = plan_of(shard, appends, size);
+            let plan = plan_of(alloc, shard, appends, size);
             worked(
                 rt,
                 alloc,
