@@ -4,9 +4,10 @@
 ghost use Rattle.std.specs.Prelude.{ℕ, ◌≤◌};
 ghost use Rattle.causes.specs.Causes.{Counts, Rose};
 
-mod number_lists;
+use list_core::Items;
 
-pub use number_lists::NumberList;
+/// A list of numbers.
+pub type NumberList = Items<u64>;
 
 /// The count after one more. At its last value, 2^64 - 1, it stands still.
 pub fn one_more(count: u64) -> u64

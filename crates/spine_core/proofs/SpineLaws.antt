@@ -2,7 +2,6 @@
 use Rattle.std.proofs.Common.{◌≡◌, ℕ, zero, suc, ◌+◌, ◌-◌, ◌<◌, ◌≤◌, Bool, true, false, Option, Some, None, List, [], ◌∷◌, ◌++◌, length, take, drop, get_or, set, refl, sym, ap, subst, ◌∙◌, arith}
 use Rattle.std.proofs.lemmas.Bool.Decides.{nat_tests, Decides-eqb}
 use Rattle.std.proofs.lemmas.Bool.{false≢true}
-use Rattle.std.specs.Bool.{Decides}
 use Rattle.std.specs.List.{remove}
 use Rattle.update_core.specs.Frontiers.{covers, is_at}
 use Rattle.spine_core.specs.declared.batches.Batch.{Batch}
@@ -112,9 +111,6 @@ merged_pair left right merged bs new place found is = (found.0, is ∙ merged_at
 -- a test that fails where the facts differ
 pub differs : (r : Bool) (x y : Batch) → (x ≡ y → r ≡ true) → r ≡ false → ¬ (x ≡ y)
 differs r x y h f e = false≢true (sym f ∙ h e)
-
-pub moved_test : {A : Type 0} (r : Bool) (a b c d : A) → a ≡ c → b ≡ d → Decides r (a ≡ b) → Decides r (c ≡ d)
-moved_test r a b c d p q h = (λ t. sym p ∙ h.0 t ∙ q, λ e. h.1 (p ∙ e ∙ sym q))
 
 upper_from-push : (f : Option ℕ) (bs : List Batch) (b : Batch) → upper_from f (bs ++ b ∷ []) ≡ b.desc.upper
 upper_from-push f [] b = refl

@@ -2,7 +2,7 @@
 ghost use Rattle.std.specs.Prelude.{◌≡◌, ◌↔◌, IsTrue, IfOk};
 
 use crate::descs::Desc;
-use crate::key_lists::KeyList;
+use crate::key_lists::{KeyList, Keys};
 use std::alloc::{AllocError, Global};
 
 /// The updates of a span of times: the keys of the parts that hold them, and how many rows they are.

@@ -10,6 +10,6 @@ mod spines;
 
 pub use batches::Batch;
 pub use descs::Desc;
-pub use key_lists::KeyList;
+pub use key_lists::{KeyList, Keys};
 pub use spine_faults::SpineFault;
 pub use spines::Spine;

@@ -3,4 +3,4 @@
 
 mod stops;
 
-pub use stops::{Stop, StopList};
+pub use stops::{Stop, StopList, StopNumbers};

@@ -1,6 +1,7 @@
 // Byte strings with several owners.
 ghost use Rattle.std.specs.Prelude.{◌≡◌, IfOk};
 
+use list_core::Copied;
 use std::alloc::{AllocError, Global};
 use std::marker::Model;
 use std::sync::Arc;
@@ -42,5 +43,11 @@ impl Bytes {
     {
         let inner = Arc::try_clone(&self.inner)?;
         Ok(Bytes { inner })
+    }
+}
+
+impl Copied for Bytes {
+    fn copied(&self, _alloc: Global) -> Result<Bytes, AllocError> {
+        self.copy()
     }
 }

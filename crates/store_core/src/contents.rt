@@ -7,11 +7,11 @@ ghost use Rattle.store_core.specs.Contents.{blobs_of, logs_of, stored_of};
 
 use crate::byte_strings::Bytes;
 use crate::calls::Call;
+use crate::lists::VersionList;
 use crate::part_keys::PartKey;
 use crate::replies::Reply;
 use crate::shard_logs::ShardLog;
 use crate::shards::ShardId;
-use crate::version_lists::VersionList;
 use crate::versions::Version;
 use std::alloc::{AllocError, Global};
 use std::collections::BTreeMap;

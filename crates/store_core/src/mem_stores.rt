@@ -9,14 +9,13 @@ ghost use Rattle.store_core.specs.Contents.{stored_of};
 ghost use Rattle.store_core.specs.Faults.{outcome_at};
 ghost use Rattle.store_core.specs.Histories.{replay, Adds, IsReplyTo, reply_by, after_outcome, faults_of, entry_of, reply, store_after, with_entry};
 
-use crate::blob_lists::BlobList;
 use crate::calls::Call;
 use crate::contents::Contents;
 use crate::entries::Entry;
-use crate::fault_lists::FaultList;
+use crate::fault_lists::{FaultList, ListedFaults};
+use crate::lists::{BlobList, ShardList};
 use crate::outcomes::Outcome;
 use crate::replies::Reply;
-use crate::shard_lists::ShardList;
 use crate::starting::starting_contents;
 use crate::stores::Store;
 use causes::one_more;

@@ -1,6 +1,6 @@
 // Replies of a store.
 use crate::byte_strings::Bytes;
-use crate::version_lists::VersionList;
+use crate::lists::VersionList;
 use crate::versions::Version;
 
 /// What a store answers.

@@ -3,7 +3,7 @@ ghost use Rattle.std.specs.Prelude.{◌≡◌, ◌<◌, ◌≤◌, ◌+◌, ◌-
 ghost use Rattle.store_core.specs.Stores.{live, numbered, last_of, last_number, committed, truncated};
 
 use crate::byte_strings::Bytes;
-use crate::version_lists::VersionList;
+use crate::lists::VersionList;
 use crate::versions::Version;
 use std::alloc::{AllocError, Global};
 use std::collections::VecDeque;

@@ -7,12 +7,10 @@ ghost use Rattle.store_core.specs.Stores.{key_cmp, shard_cmp};
 ghost use Rattle.store_core.specs.Starting.{CanStart, NoneTwice, log_entry, same_key, same_shard, shards_of, starting_store};
 ghost use Rattle.store_core.specs.Contents.{stored_of};
 
-use crate::blob_lists::BlobList;
-use crate::byte_lists::BytesList;
 use crate::byte_strings::Bytes;
 use crate::contents::{Contents, set_blob, set_log};
+use crate::lists::{BlobList, BytesList, ShardList};
 use crate::part_keys::PartKey;
-use crate::shard_lists::ShardList;
 use crate::shard_logs::ShardLog;
 use crate::shards::ShardId;
 use std::alloc::{AllocError, Global};

@@ -2,7 +2,8 @@
 ghost use Rattle.std.specs.Prelude.{◌≡◌, IfOk};
 
 use crate::byte_strings::Bytes;
-use std::alloc::AllocError;
+use list_core::Copied;
+use std::alloc::{AllocError, Global};
 
 /// A version of a shard: its number and its bytes.
 #[derive(Drop)]
@@ -21,5 +22,11 @@ impl Version {
             number: self.number,
             bytes,
         })
+    }
+}
+
+impl Copied for Version {
+    fn copied(&self, _alloc: Global) -> Result<Version, AllocError> {
+        self.copy()
     }
 }

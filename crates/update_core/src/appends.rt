@@ -1,6 +1,6 @@
 // An append as a feed asks for it.
 use crate::frontiers::Frontier;
-use crate::update_lists::UpdateList;
+use crate::updates::UpdateList;
 
 /// Rows to append from the time `lower` up to the frontier `upper`.
 #[derive(Drop)]

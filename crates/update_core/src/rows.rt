@@ -2,6 +2,7 @@
 ghost use Rattle.std.specs.Prelude.{◌≡◌, IfOk};
 
 use crate::data::Datum;
+use list_core::{Copied, Items};
 use std::alloc::{AllocError, Global};
 
 /// A datum with the sum of its differences up to a time. See docs/DEFINITIONS.md, "Sums".
@@ -22,3 +23,12 @@ impl Row {
         })
     }
 }
+
+impl Copied for Row {
+    fn copied(&self, alloc: Global) -> Result<Row, AllocError> {
+        self.copy(alloc)
+    }
+}
+
+/// Rows in order.
+pub type RowList = Items<Row>;

@@ -12,10 +12,8 @@ use crate::counting::count;
 use crate::data::Datum;
 use crate::frontiers::Frontier;
 use crate::merging::consolidate_by;
-use crate::row_lists::RowList;
-use crate::rows::Row;
-use crate::update_lists::UpdateList;
-use crate::updates::Update;
+use crate::rows::{Row, RowList};
+use crate::updates::{Update, UpdateList};
 use std::alloc::{AllocError, Global};
 use std::collections::{BTreeMap, VecDeque};
 
@@ -136,7 +134,9 @@ pub fn slice_between(
 pub fn advance(rows: &mut UpdateList, since: u64)
     ensures { rows.new ≡ moved rows.old since }
 {
-    rows.advance(since);
+    for update in rows.items_mut().iter_mut() {
+        update.time = update.time.max(since);
+    }
 }
 
 fn weight_in(rows: &[Update]) -> u128

@@ -2,6 +2,7 @@
 ghost use Rattle.std.specs.Prelude.{◌≡◌, IfOk};
 
 use crate::data::Datum;
+use list_core::{Copied, Items};
 use std::alloc::{AllocError, Global};
 
 /// An update: from its time on the datum counts `diff` more times. See docs/DEFINITIONS.md, "Updates".
@@ -24,3 +25,12 @@ impl Update {
         })
     }
 }
+
+impl Copied for Update {
+    fn copied(&self, alloc: Global) -> Result<Update, AllocError> {
+        self.copy(alloc)
+    }
+}
+
+/// Updates in order.
+pub type UpdateList = Items<Update>;

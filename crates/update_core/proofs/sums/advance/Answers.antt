@@ -2,7 +2,7 @@ use Rattle.std.proofs.Common.{◌++◌, map, take, drop, set, get_or, sym, ap, �
 use Rattle.std.proofs.Math.Numerals.{add-one}
 use Rattle.update_core.specs.Updates.{moved_by}
 use Rattle.update_core.proofs.UpdateLaws.{changed_more}
-use Rattle.update_core.proofs.update_lists.UpdateList.advance.Goals as goal
+use Rattle.update_core.proofs.sums.advance.Goals as goal
 
 pub loop-update-preserved : goal.loop-update-preserved
 loop-update-preserved c =
